@@ -69,7 +69,8 @@ fn judge<L: Ledger>(
 fn start_cause(alloc: Global, program: &Program, log: &Log) -> Result<Option<Cause>, AllocError>
     requires { IsLogOf program.now log.now }
     ensures { IfOk result (λ cause. MatchOption cause
-        ((log.now.stage ≡ program.now.start_stage) × (log.now.start ≡ finite.entries program.now.start))
+        ((log.now.stage ≡ program.now.start_stage)
+        × (log.now.start ≡ finite.entries program.now.start))
         (IsStartCause program.now log.now)) }
 {
     let parts = program.parts();
@@ -100,7 +101,8 @@ fn last_spot<L: Ledger>(
     requires of_program { IsLogOf program.now log.now }
     requires spot { IsSpotOf program.now start }
     ensures done { IfOk result (λ done. MatchResult done
-        (λ last. AreLegalSteps program.now log.now.height log.now.steps start last × IsSpotOf program.now last)
+        (λ last. AreLegalSteps program.now log.now.height log.now.steps start last
+        × IsSpotOf program.now last)
         (λ refused. IsRefusedFrom program.now log.now start log.now.steps refused.0 refused.1)) }
     ensures never_falls { steps.old ≤ steps.new }
 {

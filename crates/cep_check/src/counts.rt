@@ -34,7 +34,8 @@ pub(crate) struct Lack<'a> {
 pub(crate) fn first_difference<'a>(listing: &'a Haves, state: &'a Bag) -> Option<Difference<'a>>
     requires listing { (signature : Signature) × IsListing signature listing.now }
     ensures { MatchOption result (listing.now ≡ finite.entries state.now)
-        (λ difference. IsFirstDifference listing.now state.now (atom_of difference.atom.now) difference.said difference.is) }
+        (λ difference. IsFirstDifference listing.now state.now
+        (atom_of difference.atom.now) difference.said difference.is) }
 {
     bags_are_lawful();
     for place in 0..listing.len().max(state.len()) {
@@ -52,7 +53,8 @@ fn difference_at<'a>(listing: &'a Haves, state: &'a Bag, place: usize) -> Option
     requires below { AgreeBelow place listing.now state.now }
     requires within { (place < length listing.now) ⊎ (place < finite.len state.now) }
     ensures { MatchOption result (Agree place listing.now state.now)
-        (λ difference. IsFirstDifference listing.now state.now (atom_of difference.atom.now) difference.said difference.is) }
+        (λ difference. IsFirstDifference listing.now state.now
+        (atom_of difference.atom.now) difference.said difference.is) }
 {
     bags_are_lawful();
     let entries = state.len();

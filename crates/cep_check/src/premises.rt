@@ -56,8 +56,10 @@ fn failure(
     requires in_range { IsAtomInRange (length values.now) (atom_of back.now) }
     requires low { proof_height (proof_of proof.now) ≤ MOST_HEIGHT }
     ensures { IfOk result (λ cause. MatchOption cause
-        (IsProofAt program.now most (proof_of proof.now) (full_instance values.now (atom_of back.now)))
-        (IsOneProofCause program.now most (proof_of proof.now) (full_instance values.now (atom_of back.now)) place)) }
+        (IsProofAt program.now most (proof_of proof.now)
+        (full_instance values.now (atom_of back.now)))
+        (IsOneProofCause program.now most (proof_of proof.now)
+        (full_instance values.now (atom_of back.now)) place)) }
 {
     let atom = match fit_instance(alloc, back, values)? {
         Some(atom) => atom,

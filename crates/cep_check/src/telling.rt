@@ -195,9 +195,11 @@ fn put_counts(
 ) -> Result<(), AllocError>
     requires { IsTypedGround program.now.signature (atom_of atom.now) }
     ensures ok { OnOk result (out.new
-        ≡ out.old ++ counts_text program.now.signature words.now one between.now other (atom_of atom.now)) }
+        ≡ out.old ++ counts_text program.now.signature words.now one between.now other
+        (atom_of atom.now)) }
     ensures err { OnErr result (IsBegun out.old
-        (counts_text program.now.signature words.now one between.now other (atom_of atom.now)) out.new) }
+        (counts_text program.now.signature words.now one between.now other (atom_of atom.now))
+        out.new) }
 {
     out.append(words)?;
     out.number(u64::from(one))?;

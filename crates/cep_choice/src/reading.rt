@@ -30,8 +30,10 @@ pub struct Heard {
 /// Reads one line, of at most `room` bytes, and says which place among `n` it chooses. A refused
 /// call took some bytes of the line.
 pub fn read_choice<C: Console>(console: &mut C, n: u32, room: u64) -> Result<Heard, ConsoleFault>
-    ensures line { IfOk result (λ heard. Did C.talk C.left console.old console.new (λ come events rest.
-        (cut : Cut) × ReadsLine room come events cut rest heard.taken × IsHeardAs n cut heard.said)) }
+    ensures line { IfOk result (λ heard.
+        Did C.talk C.left console.old console.new (λ come events rest.
+        (cut : Cut) × ReadsLine room come events cut rest heard.taken
+        × IsHeardAs n cut heard.said)) }
     ensures cut_short { OnErr result (Did C.talk C.left console.old console.new (IsCutShort room)) }
     ensures within { IfOk result (λ heard. heard.taken ≤ room) }
     ensures taken { IfOk result (λ heard. IsTakenFor room heard.said heard.taken) }

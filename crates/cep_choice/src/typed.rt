@@ -25,7 +25,8 @@ impl Typed {
     pub fn then(self, n: u32, byte: u8) -> Typed
         requires { IsWithin n self }
         ensures within { IsWithin n result }
-        ensures reads { (bytes : List ℕ) → Reads n self bytes → Reads n result (bytes ++ byte ∷ []) }
+        ensures reads { (bytes : List ℕ) → Reads n self bytes
+            → Reads n result (bytes ++ byte ∷ []) }
     {
         match self {
             Typed::Empty => match byte {
@@ -45,7 +46,8 @@ impl Typed {
     pub fn said(self) -> Said
         ensures of_line { IsOfLine result }
         ensures within { (n : ℕ) → IsWithin n self → IsPlaceWithin n result }
-        ensures says { (n : ℕ) (line : List ℕ) → n < 2 ^ 32 → IsWithin n self → Reads n self line → SaysOf n line result }
+        ensures says { (n : ℕ) (line : List ℕ) → n < 2 ^ 32 → IsWithin n self → Reads n self line
+            → SaysOf n line result }
     {
         match self {
             Typed::Number(value) | Typed::Closed(value) => Said::Number(value),

@@ -103,7 +103,8 @@ impl Shelf for MemShelf {
 
         // What it says beside the trait: when it fails, and that its files stay.
         ensures files { self.new.files ≡ self.old.files }
-        ensures calls { LoadCounts self.old.calls self.new.calls (map.get self.old.files name.now) result }
+        ensures calls { LoadCounts self.old.calls self.new.calls
+            (map.get self.old.files name.now) result }
     {
         let fails = self.calls.begin();
         let asked = String::from_str(self.alloc, name)?;

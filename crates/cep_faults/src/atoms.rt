@@ -105,7 +105,8 @@ pub(crate) fn side_fault(source: &Source, made: bool, side: &[RawElem]) -> Optio
 
 // The first fault of an atom of a state.
 fn state_fault(source: &Source, atom: AtomRef) -> Result<Option<Fault>, AllocError>
-    ensures { IfOk result (λ first. first ≡ first_in (state_faults source.now (atom_at atom.entry))) }
+    ensures { IfOk result (λ first. first
+        ≡ first_in (state_faults source.now (atom_at atom.entry))) }
 {
     let unfit = unfit_fault(source.alloc(), atom)?;
     let names = names_fault(source, true, atom);
@@ -118,7 +119,8 @@ pub(crate) fn listed_fault(
     in_braces: bool,
     atoms: &[RawAtom],
 ) -> Result<Option<Fault>, AllocError>
-    ensures { IfOk result (λ first. first ≡ first_in (flat_map (listed_faults source.now in_braces) atoms.now)) }
+    ensures { IfOk result (λ first. first
+        ≡ first_in (flat_map (listed_faults source.now in_braces) atoms.now)) }
 {
     let mut first = FirstFault::none();
     for atom in atoms {

@@ -50,7 +50,8 @@ fn cons_fault(source: &Source) -> Option<Fault>
 
 // The first fault of the contexts.
 fn contexts_fault(source: &Source) -> Result<Option<Fault>, AllocError>
-    ensures { IfOk result (λ first. first ≡ first_in (flat_map (context_faults source.now) (contexts_of source.now))) }
+    ensures { IfOk result (λ first. first
+        ≡ first_in (flat_map (context_faults source.now) (contexts_of source.now))) }
 {
     let mut first = FirstFault::none();
     for context in source.contexts() {
@@ -71,7 +72,8 @@ fn begin_fault(source: &Source, start: &RawStart) -> Result<Option<Fault>, Alloc
 
 // The first fault of the traces, but for their number and the size of a start state.
 fn traces_fault(source: &Source) -> Result<Option<Fault>, AllocError>
-    ensures { IfOk result (λ first. first ≡ first_in (flat_map (trace_faults source.now) (traces_of source.now))) }
+    ensures { IfOk result (λ first. first
+        ≡ first_in (flat_map (trace_faults source.now) (traces_of source.now))) }
 {
     let mut first = FirstFault::none();
     for trace in source.traces() {

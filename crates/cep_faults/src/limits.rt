@@ -99,7 +99,9 @@ pub(crate) fn right_past(right: &[RawElem]) -> Option<Fault>
 
 // The fault of the first variable that is one too many.
 pub(crate) fn variable_past(variables: &Variables) -> Option<Fault>
-    ensures { result ≡ first_in (past (option_map (λ at. at.from) (slice_get (map (λ entry. entry.1) variables.now.firsts) MOST_VARIABLES))) }
+    ensures { result ≡ first_in (past
+        (option_map (λ at. at.from)
+        (slice_get (map (λ entry. entry.1) variables.now.firsts) MOST_VARIABLES))) }
 {
     past(variables.firsts.at(MOST_VARIABLES).map(|at| at.from))
 }
@@ -146,7 +148,8 @@ pub(crate) struct Run {
 
 // Adds so many terms of a level.
 fn open(runs: &mut Vec<Run>, level: u64, terms: u32) -> Result<(), AllocError>
-    ensures { OnOk result (pending runs.new.items ≡ repeat terms (level ∷ []) ++ pending runs.old.items) }
+    ensures { OnOk result (pending runs.new.items
+        ≡ repeat terms (level ∷ []) ++ pending runs.old.items) }
 {
     if terms > 0 {
         runs.push(Run {
@@ -160,7 +163,8 @@ fn open(runs: &mut Vec<Run>, level: u64, terms: u32) -> Result<(), AllocError>
 // Takes the next term and answers its level. None where no term is to come.
 fn next_level(runs: &mut Vec<Run>) -> Option<u64>
     ensures none { IfNone result (pending runs.old.items ≡ []) }
-    ensures some { IfSome result (λ level. pending runs.old.items ≡ level ∷ pending runs.new.items) }
+    ensures some { IfSome result (λ level. pending runs.old.items
+        ≡ level ∷ pending runs.new.items) }
 {
     let last = runs.len().checked_sub(1)?;
     let run = runs[last];

@@ -48,7 +48,8 @@ fn home_fault(rule: &RuleRef) -> Option<Fault>
 
 // The first fault of a rule.
 fn rule_fault(source: &Source, rule: &RuleRef) -> Result<Option<Fault>, AllocError>
-    ensures { IfOk result (λ first. first ≡ first_in (rule_faults source.now (rule_item rule.now))) }
+    ensures { IfOk result (λ first. first
+        ≡ first_in (rule_faults source.now (rule_item rule.now))) }
 {
     let left = rule.raw.left.as_slice();
     let right = rule.raw.right.as_slice();
@@ -66,7 +67,8 @@ fn rule_fault(source: &Source, rule: &RuleRef) -> Result<Option<Fault>, AllocErr
 
 // The first fault of the rules.
 pub(crate) fn rules_fault(source: &Source) -> Result<Option<Fault>, AllocError>
-    ensures { IfOk result (λ first. first ≡ first_in (flat_map (rule_faults source.now) (rules_of source.now))) }
+    ensures { IfOk result (λ first. first
+        ≡ first_in (flat_map (rule_faults source.now) (rules_of source.now))) }
 {
     let mut first = FirstFault::none();
     for rule in source.rules() {
@@ -77,7 +79,8 @@ pub(crate) fn rules_fault(source: &Source) -> Result<Option<Fault>, AllocError>
 
 // The first fault of a clause.
 fn clause_fault(source: &Source, clause: &ClauseRef) -> Result<Option<Fault>, AllocError>
-    ensures { IfOk result (λ first. first ≡ first_in (clause_faults source.now (clause_item clause.now))) }
+    ensures { IfOk result (λ first. first
+        ≡ first_in (clause_faults source.now (clause_item clause.now))) }
 {
     let variables = Variables::of_clause(source, clause)?;
     let mut first = FirstFault::none();
@@ -92,7 +95,8 @@ fn clause_fault(source: &Source, clause: &ClauseRef) -> Result<Option<Fault>, Al
 
 // The first fault of the clauses.
 pub(crate) fn clauses_fault(source: &Source) -> Result<Option<Fault>, AllocError>
-    ensures { IfOk result (λ first. first ≡ first_in (flat_map (clause_faults source.now) (clauses_of source.now))) }
+    ensures { IfOk result (λ first. first
+        ≡ first_in (flat_map (clause_faults source.now) (clauses_of source.now))) }
 {
     let mut first = FirstFault::none();
     for clause in source.clauses() {

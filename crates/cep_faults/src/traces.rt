@@ -89,7 +89,8 @@ impl Counted {
 
     // One atom more.
     fn note(&mut self, source: &Source, atom: &RawAtom) -> Result<(), AllocError>
-        ensures { OnOk result ((before : List RawAtom) → IsCountOf source.now before self.old → IsCountOf source.now (before ++ atom.now ∷ []) self.new) }
+        ensures { OnOk result ((before : List RawAtom) → IsCountOf source.now before self.old
+            → IsCountOf source.now (before ++ atom.now ∷ []) self.new) }
     {
         if is_of_fact(source, atom) {
             let key = key_of(source, atom)?;
@@ -104,7 +105,9 @@ impl Counted {
 
     // The atoms of a context more. Where it was listed before, its facts count no more.
     fn note_context(&mut self, source: &Source, name: Span) -> Result<(), AllocError>
-        ensures { OnOk result ((before : List RawAtom) → IsCountOf source.now before self.old → IsCountOf source.now (before ++ listed_in source.now (said source.now name)) self.new) }
+        ensures { OnOk result ((before : List RawAtom) → IsCountOf source.now before self.old
+            → IsCountOf source.now (before
+            ++ listed_in source.now (said source.now name)) self.new) }
     {
         if let Some(size) = self.contexts.under(source.said(name)) {
             self.size = self.size.and(size);
@@ -121,7 +124,9 @@ impl Counted {
 
     // What atoms in braces list.
     fn note_braces(&mut self, source: &Source, atoms: &[RawAtom]) -> Result<(), AllocError>
-        ensures { OnOk result ((before : List RawAtom) → IsCountOf source.now before self.old → IsCountOf source.now (before ++ start_atoms source.now (start.Listed atoms.now)) self.new) }
+        ensures { OnOk result ((before : List RawAtom) → IsCountOf source.now before self.old
+            → IsCountOf source.now (before
+            ++ start_atoms source.now (start.Listed atoms.now)) self.new) }
     {
         for atom in atoms {
             if source.stands_for_context(atom) {
@@ -136,7 +141,8 @@ impl Counted {
 
 // The size of a start state.
 fn size_of(source: &Source, start: &RawStart) -> Result<Size, AllocError>
-    ensures { IfOk result (λ size. size ≡ cut (written_size (counting source.now (start_atoms source.now start.now)))) }
+    ensures { IfOk result (λ size. size
+        ≡ cut (written_size (counting source.now (start_atoms source.now start.now)))) }
 {
     let mut counted = Counted::nothing(source.alloc());
     match start {
@@ -148,7 +154,8 @@ fn size_of(source: &Source, start: &RawStart) -> Result<Size, AllocError>
 
 // The fault of a start state that is too large.
 fn large_fault(source: &Source, trace: &TraceRef) -> Result<Option<Fault>, AllocError>
-    ensures { IfOk result (λ first. first ≡ first_in (start_faults source.now (trace_item trace.now))) }
+    ensures { IfOk result (λ first. first
+        ≡ first_in (start_faults source.now (trace_item trace.now))) }
 {
     let size = size_of(source, trace.start)?;
     Ok(start_past(size, trace.at))
@@ -172,7 +179,8 @@ fn two_fault(traces: &[TraceRef]) -> Option<Fault>
 // none.
 pub(crate) fn total_fault(source: &Source) -> Result<Option<Fault>, AllocError>
     requires { length source.now.text ≤ MOST_TEXT }
-    ensures { IfOk result (λ first. first ≡ first_in (traces_faults source.now (traces_of source.now))) }
+    ensures { IfOk result (λ first. first
+        ≡ first_in (traces_faults source.now (traces_of source.now))) }
 {
     match source.traces().split_first() {
         Some((trace, rest)) => {

@@ -26,7 +26,8 @@ pub fn make(
         IsAtomInRange (length values.now) a) right.now }
     requires ground { AllByRecursion (λ (a : AtomTree).
         IsGroundAtom (full_instance values.now a)) right.now }
-    ensures { OnOk result (MakesFor signature.now values.now right.now number tokens.old tokens.new) }
+    ensures { OnOk result (MakesFor signature.now values.now right.now number tokens.old
+        tokens.new) }
 {
     bags_are_lawful();
     for i in 0..right.len() {

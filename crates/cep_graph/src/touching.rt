@@ -25,7 +25,8 @@ pub fn touch(
 ) -> Result<Numbers, AllocError>
     requires typed { IsTypedRule signature.now rule.now }
     requires values { AreValues signature.now.cons rule.now.kinds values.now }
-    ensures { IfOk result (TouchesBy signature.now values.now rule.now number tokens.old tokens.new) }
+    ensures { IfOk result (TouchesBy signature.now values.now rule.now number tokens.old
+        tokens.new) }
 {
     types_are_lawful();
     bags_are_lawful();

@@ -17,7 +17,8 @@ fn stands_before(one: Pos, other: Pos) -> bool
 
 // The earlier of two places, if there are any.
 fn earlier(one: Option<Pos>, other: Option<Pos>) -> Option<Pos>
-    ensures { (xs ys : List Pos) → IsEarliest xs one → IsEarliest ys other → IsEarliest (xs ++ ys) result }
+    ensures { (xs ys : List Pos) → IsEarliest xs one → IsEarliest ys other
+        → IsEarliest (xs ++ ys) result }
 {
     match (one, other) {
         (Some(pos), Some(next)) => { if stands_before(next, pos) { other } else { one } }

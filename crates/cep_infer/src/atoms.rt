@@ -19,7 +19,8 @@ pub(crate) fn push_atom(
     blanks: &mut u64,
     atoms: &mut AtomList,
 ) -> Result<(), AllocError>
-    ensures { OnOk result (AreBuilt source.now (names_among variables.now.firsts) (raw.now ∷ []) blanks.old blanks.new atoms.old atoms.new) }
+    ensures { OnOk result (AreBuilt source.now (names_among variables.now.firsts)
+        (raw.now ∷ []) blanks.old blanks.new atoms.old atoms.new) }
 {
     let atom = read_atom(source, variables, blanks, AtomRef::of_raw(raw))?;
     atoms.push(atom)
@@ -33,7 +34,8 @@ pub(crate) fn push_atoms(
     blanks: &mut u64,
     atoms: &mut AtomList,
 ) -> Result<(), AllocError>
-    ensures { OnOk result (AreBuilt source.now (names_among variables.now.firsts) raws.now blanks.old blanks.new atoms.old atoms.new) }
+    ensures { OnOk result (AreBuilt source.now
+        (names_among variables.now.firsts) raws.now blanks.old blanks.new atoms.old atoms.new) }
 {
     for raw in raws {
         push_atom(source, variables, raw, blanks, atoms)?;
@@ -48,7 +50,8 @@ pub(crate) fn read_atoms(
     raws: &[RawAtom],
     blanks: u64,
 ) -> Result<AtomList, AllocError>
-    ensures { IfOk result (λ atoms. AreAtomsBy source.now (names_among variables.now.firsts) blanks raws.now atoms) }
+    ensures { IfOk result (λ atoms.
+        AreAtomsBy source.now (names_among variables.now.firsts) blanks raws.now atoms) }
 {
     let mut behind = blanks;
     let mut atoms = AtomList::new(source.alloc());
@@ -63,7 +66,8 @@ pub(crate) fn read_side(
     side: &[RawElem],
     blanks: u64,
 ) -> Result<AtomList, AllocError>
-    ensures { IfOk result (λ atoms. AreAtomsBy source.now (names_among variables.now.firsts) blanks (atoms_of side.now) atoms) }
+    ensures { IfOk result (λ atoms.
+        AreAtomsBy source.now (names_among variables.now.firsts) blanks (atoms_of side.now) atoms) }
 {
     let mut behind = blanks;
     let mut atoms = AtomList::new(source.alloc());

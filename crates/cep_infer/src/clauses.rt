@@ -14,7 +14,8 @@ use cep_types::{clause_variables, variable_kinds};
 use std::alloc::AllocError;
 
 fn clause(source: &Source, item: &ClauseRef) -> Result<Clause, AllocError>
-    ensures { IfOk result (λ clause. IsClauseBy source.now (clause_item item.now) (clause_of clause)) }
+    ensures { IfOk result (λ clause.
+        IsClauseBy source.now (clause_item item.now) (clause_of clause)) }
 {
     let variables = clause_variables(source, item)?;
     let mut blanks = 0;
@@ -28,7 +29,8 @@ fn clause(source: &Source, item: &ClauseRef) -> Result<Clause, AllocError>
 
 // The clauses in written order, those with a label too.
 pub(crate) fn read_clauses(source: &Source) -> Result<Clauses, AllocError>
-    ensures { IfOk result (λ clauses. AllZip (IsClauseBy source.now) (clauses_of source.now) clauses) }
+    ensures { IfOk result (λ clauses.
+        AllZip (IsClauseBy source.now) (clauses_of source.now) clauses) }
 {
     let mut clauses = Clauses::new(source.alloc());
     for item in source.clauses() {

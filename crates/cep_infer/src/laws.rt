@@ -34,7 +34,8 @@ pub fn start_atoms_are_ground()
         → IsWellNamed source
         → Contains (state_atoms source) raw
         → AreClosed raw.nodes }
-    ensures ground { (source : Source) (vars : List (List ℕ)) (blanks : ℕ) (raw : RawAtom) (atom : AtomTree)
+    ensures ground { (source : Source) (vars : List (List ℕ)) (blanks : ℕ) (raw : RawAtom)
+        (atom : AtomTree)
         → IsAtomBy source vars blanks raw atom
         → AreClosed raw.nodes
         → IsGroundAtom atom }

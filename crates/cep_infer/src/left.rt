@@ -24,7 +24,8 @@ pub(crate) struct LeftSide {
 
 // Of which kind the predicate of an atom is.
 fn pred_kind(source: &Source, atom: &Atom) -> Option<PredKind>
-    ensures { result ≡ option_map (λ pred. pred.kind) (slice_get (preds_of source.now) (atom_of atom.now).pred) }
+    ensures { result ≡ option_map (λ pred. pred.kind)
+        (slice_get (preds_of source.now) (atom_of atom.now).pred) }
 {
     Some(item_at(source.preds(), atom.pred as usize)?.kind)
 }
@@ -58,7 +59,8 @@ fn push_premise(
     blanks: &mut u64,
     left: &mut LeftSide,
 ) -> Result<(), AllocError>
-    ensures { OnOk result (IsLeftBuilt source.now (names_among variables.now.firsts) (elem.now ∷ []) blanks.old blanks.new left.old left.new) }
+    ensures { OnOk result (IsLeftBuilt source.now (names_among variables.now.firsts)
+        (elem.now ∷ []) blanks.old blanks.new left.old left.new) }
 {
     let RawElem::Atom { kept, atom } = elem else {
         return Ok(());
@@ -78,7 +80,9 @@ pub(crate) fn read_left(
     side: &[RawElem],
     blanks: &mut u64,
 ) -> Result<LeftSide, AllocError>
-    ensures { IfOk result (IsLeftBuilt source.now (names_among variables.now.firsts) side.now blanks.old blanks.new (record { premises = []; backs = [] })) }
+    ensures { IfOk result (IsLeftBuilt source.now
+        (names_among variables.now.firsts) side.now blanks.old blanks.new
+        (record { premises = []; backs = [] })) }
 {
     let mut left = LeftSide {
         premises: Premises::new(source.alloc()),

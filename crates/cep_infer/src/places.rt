@@ -37,7 +37,8 @@ pub(crate) struct RulePlaces {
 fn passed(pos: Pos, bytes: &[u8]) -> Pos
     requires line { pos.line + length bytes.now < 2 ^ 32 }
     requires col { pos.col + length bytes.now < 2 ^ 32 }
-    ensures { (before : List ℕ) → IsPlaceAfter before pos → IsPlaceAfter (before ++ bytes.now) result }
+    ensures { (before : List ℕ) → IsPlaceAfter before pos
+        → IsPlaceAfter (before ++ bytes.now) result }
 {
     let mut behind = pos;
     for byte in bytes {
@@ -105,7 +106,10 @@ fn push_unbound(
     nodes: &[RawNode],
     ats: &mut Vec<u32>,
 ) -> Result<(), AllocError>
-    ensures ats { OnOk result (ats.new.items ≡ ats.old.items ++ map (λ occurrence. occurrence.at.from) (filter (λ occurrence. not (has_name left.now.firsts occurrence.name)) (occurrences_from source.now blanks.old nodes.now))) }
+    ensures ats { OnOk result (ats.new.items
+        ≡ ats.old.items ++ map (λ occurrence. occurrence.at.from)
+        (filter (λ occurrence. not (has_name left.now.firsts occurrence.name))
+        (occurrences_from source.now blanks.old nodes.now))) }
     ensures blanks { OnOk result (blanks.new ≡ blanks_after blanks.old nodes.now) }
 {
     for node in nodes {
@@ -134,8 +138,12 @@ fn unbound_at(source: &Source, rule: &RuleRef) -> Result<Vec<u32>, AllocError>
 // For each rule, in written order, the places that its draft keeps.
 pub(crate) fn rule_places(source: &Source) -> Result<RulePlaces, AllocError>
     requires { length source.now.text ≤ MOST_TEXT }
-    ensures backs { IfOk result (λ places. ArePlaceLists source.now.text (map (backs_at source.now) (rules_of source.now)) places.backs) }
-    ensures unbound { IfOk result (λ places. ArePlaceLists source.now.text (map (unbound_at source.now) (rules_of source.now)) places.unbound) }
+    ensures backs { IfOk result (λ places.
+        ArePlaceLists source.now.text
+        (map (backs_at source.now) (rules_of source.now)) places.backs) }
+    ensures unbound { IfOk result (λ places.
+        ArePlaceLists source.now.text
+        (map (unbound_at source.now) (rules_of source.now)) places.unbound) }
 {
     let mut reached = FRONT;
     let mut backs = PlaceLists::new(source.alloc());

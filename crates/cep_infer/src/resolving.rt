@@ -50,7 +50,8 @@ fn parts_from(source: &Source, trace: &TraceRef) -> Result<Parts, AllocError>
 // The draft of what a text declares, or the first fault of its names or types.
 fn drafted_from(source: &Source) -> Result<Result<Draft, Fault>, AllocError>
     requires { length source.now.text ≤ MOST_TEXT }
-    ensures { IfOk result (λ answer. MatchResult answer (IsSound source.now) (IsFirstFault source.now)) }
+    ensures { IfOk result (λ answer.
+        MatchResult answer (IsSound source.now) (IsFirstFault source.now)) }
 {
     if let Some(misnamed) = name_fault(source)? {
         return Ok(Err(misnamed));
@@ -72,7 +73,9 @@ fn drafted_from(source: &Source) -> Result<Result<Draft, Fault>, AllocError>
 // The draft of a text, or its first fault.
 fn drafted(alloc: Global, text: &[u8], file: &RawFile) -> Result<Result<Draft, Fault>, AllocError>
     requires { length text.now ≤ MOST_TEXT }
-    ensures { IfOk result (λ answer. MatchResult answer (IsSound (record { text = text.now; file = file.now })) (IsFirstFault (record { text = text.now; file = file.now }))) }
+    ensures { IfOk result (λ answer.
+        MatchResult answer (IsSound (record { text = text.now; file = file.now }))
+        (IsFirstFault (record { text = text.now; file = file.now }))) }
 {
     let source = Source::of(alloc, text, file)?;
     let drafted = drafted_from(&source);

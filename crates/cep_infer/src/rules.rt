@@ -76,8 +76,10 @@ fn rule(source: &Source, name: &[u8], item: &RuleRef) -> Result<Rule, AllocError
 
 // The rules in written order.
 pub(crate) fn read_rules(source: &Source) -> Result<Rules, AllocError>
-    ensures rules { IfOk result (λ rules. AllZip (IsRuleBy source.now) (rules_of source.now) rules) }
-    ensures names { IfOk result (λ rules. map (λ rule. rule.name) rules ≡ map (λ named. named.name) (names_in source.now space.Rules)) }
+    ensures rules { IfOk result (λ rules.
+        AllZip (IsRuleBy source.now) (rules_of source.now) rules) }
+    ensures names { IfOk result (λ rules. map (λ rule. rule.name) rules
+        ≡ map (λ named. named.name) (names_in source.now space.Rules)) }
 {
     let items = source.rules();
     let names = source.rule_names();

@@ -24,7 +24,9 @@ use std::alloc::{AllocError, Global};
 
 // The atoms in braces, and those of the contexts for which they stand, each a copy.
 fn read_listed(source: &Source, none: &Variables, raws: &[RawAtom]) -> Result<AtomList, AllocError>
-    ensures { IfOk result (λ atoms. AreAtomsBy source.now (names_among none.now.firsts) 0 (start_atoms source.now (start.Listed raws.now)) atoms) }
+    ensures { IfOk result (λ atoms.
+        AreAtomsBy source.now (names_among none.now.firsts) 0
+        (start_atoms source.now (start.Listed raws.now)) atoms) }
 {
     let mut blanks = 0;
     let mut atoms = AtomList::new(source.alloc());
@@ -41,7 +43,8 @@ fn read_listed(source: &Source, none: &Variables, raws: &[RawAtom]) -> Result<At
 
 // The atoms of a start state, each a copy. They have no variables.
 fn start_atoms(source: &Source, start: &RawStart) -> Result<AtomList, AllocError>
-    ensures { IfOk result (λ atoms. AreAtomsBy source.now [] 0 (start_atoms source.now start.now) atoms) }
+    ensures { IfOk result (λ atoms.
+        AreAtomsBy source.now [] 0 (start_atoms source.now start.now) atoms) }
 {
     let none = Variables::unmet(source.alloc());
     match start {
@@ -64,7 +67,8 @@ pub(crate) fn read_start(source: &Source, trace: &TraceRef) -> Result<Bag, Alloc
 
 // The atoms, the least first.
 fn in_rising_order<'a>(alloc: Global, atoms: &'a AtomList) -> Result<Vec<&'a Atom>, AllocError>
-    ensures { IfOk result (λ rising. IsPermutation atoms.now (map (λ atom. atom_of atom.now) rising.items)) }
+    ensures { IfOk result (λ rising.
+        IsPermutation atoms.now (map (λ atom. atom_of atom.now) rising.items)) }
 {
     let mut rising: Vec<&Atom> = atoms.as_slice().iter().collect(alloc)?;
     rising.sort_by(|one, other| order(one, other))?;
@@ -73,7 +77,8 @@ fn in_rising_order<'a>(alloc: Global, atoms: &'a AtomList) -> Result<Vec<&'a Ato
 
 // Whether the atom is a fact that is there.
 fn is_repeated(source: &Source, bag: &Bag, atom: &Atom) -> bool
-    ensures { result ≡ (is_fact_by source.now (atom_of atom.now) && nat_lt 0 (count_of bag.now (atom_of atom.now))) }
+    ensures { result ≡ (is_fact_by source.now (atom_of atom.now) && nat_lt 0
+        (count_of bag.now (atom_of atom.now))) }
 {
     is_fact(source, atom) && bag.count(atom) > 0
 }
@@ -82,7 +87,8 @@ fn is_repeated(source: &Source, bag: &Bag, atom: &Atom) -> bool
 // there.
 fn add_all(source: &Source, atoms: &[&Atom]) -> Result<Bag, AllocError>
     requires { AllByRecursion IsGroundAtom (map (λ atom. atom_of atom.now) atoms.now) }
-    ensures { IfOk result (λ bag. bag ≡ once (is_fact_by source.now) (gathered (map (λ atom. atom_of atom.now) atoms.now))) }
+    ensures { IfOk result (λ bag. bag
+        ≡ once (is_fact_by source.now) (gathered (map (λ atom. atom_of atom.now) atoms.now))) }
 {
     bags_are_lawful();
     let mut bag = Bag::new(source.alloc());

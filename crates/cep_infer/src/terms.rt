@@ -29,8 +29,14 @@ fn read_term(
     nodes: &[RawNode],
     cursor: &mut Cursor,
 ) -> Result<Term, AllocError>
-    ensures heads { IfOk result (λ term. heads_from source.now (names_among variables.now.firsts) cursor.old.blanks (drop cursor.old.at nodes.now) ≡ heads_of (tree_of term) ++ heads_from source.now (names_among variables.now.firsts) cursor.new.blanks (drop cursor.new.at nodes.now)) }
-    ensures blanks { OnOk result (blanks_after cursor.old.blanks (drop cursor.old.at nodes.now) ≡ blanks_after cursor.new.blanks (drop cursor.new.at nodes.now)) }
+    ensures heads { IfOk result (λ term.
+        heads_from source.now (names_among variables.now.firsts) cursor.old.blanks
+        (drop cursor.old.at nodes.now)
+        ≡ heads_of (tree_of term)
+        ++ heads_from source.now (names_among variables.now.firsts) cursor.new.blanks
+        (drop cursor.new.at nodes.now)) }
+    ensures blanks { OnOk result (blanks_after cursor.old.blanks (drop cursor.old.at nodes.now)
+        ≡ blanks_after cursor.new.blanks (drop cursor.new.at nodes.now)) }
     ensures further { OnOk result (cursor.old.at < cursor.new.at) }
     ensures within { OnOk result (cursor.new.at ≤ length nodes.now) }
 {
@@ -57,11 +63,18 @@ fn read_args(
     cursor: &mut Cursor,
     count: u32,
 ) -> Result<Args, AllocError>
-    ensures heads { IfOk result (λ args. heads_from source.now (names_among variables.now.firsts) cursor.old.blanks (drop cursor.old.at nodes.now) ≡ heads_among (trees_of args) ++ heads_from source.now (names_among variables.now.firsts) cursor.new.blanks (drop cursor.new.at nodes.now)) }
+    ensures heads { IfOk result (λ args.
+        heads_from source.now (names_among variables.now.firsts) cursor.old.blanks
+        (drop cursor.old.at nodes.now)
+        ≡ heads_among (trees_of args)
+        ++ heads_from source.now (names_among variables.now.firsts) cursor.new.blanks
+        (drop cursor.new.at nodes.now)) }
     ensures count { IfOk result (λ args. argument_count (trees_of args) ≡ count) }
-    ensures blanks { OnOk result (blanks_after cursor.old.blanks (drop cursor.old.at nodes.now) ≡ blanks_after cursor.new.blanks (drop cursor.new.at nodes.now)) }
+    ensures blanks { OnOk result (blanks_after cursor.old.blanks (drop cursor.old.at nodes.now)
+        ≡ blanks_after cursor.new.blanks (drop cursor.new.at nodes.now)) }
     ensures further { OnOk result (cursor.old.at ≤ cursor.new.at) }
-    ensures within { cursor.old.at ≤ length nodes.now → OnOk result (cursor.new.at ≤ length nodes.now) }
+    ensures within { cursor.old.at ≤ length nodes.now
+        → OnOk result (cursor.new.at ≤ length nodes.now) }
 {
     if count == 0 {
         return Ok(Args::Nil);
@@ -78,7 +91,9 @@ pub(crate) fn read_atom(
     blanks: &mut u64,
     raw: AtomRef,
 ) -> Result<Atom, AllocError>
-    ensures atom { IfOk result (λ atom. IsAtomBy source.now (names_among variables.now.firsts) blanks.old (atom_at raw.entry) (atom_of atom)) }
+    ensures atom { IfOk result (λ atom.
+        IsAtomBy source.now (names_among variables.now.firsts) blanks.old (atom_at raw.entry)
+        (atom_of atom)) }
     ensures blanks { OnOk result (blanks.new ≡ blanks_after blanks.old (atom_at raw.entry).nodes) }
 {
     let pred = number(source, Space::Predicates, raw.name)?;

@@ -12,7 +12,8 @@ pub const START: Pos = Pos { line: 1, col: 1 };
 pub fn place_after(pos: Pos, bytes: &[u8]) -> Pos
     requires line { pos.line + length bytes.now < 2 ^ 32 }
     requires col { pos.col + length bytes.now < 2 ^ 32 }
-    ensures { (before : List ℕ) → IsPlaceAfter before pos → IsPlaceAfter (before ++ bytes.now) result }
+    ensures { (before : List ℕ) → IsPlaceAfter before pos
+        → IsPlaceAfter (before ++ bytes.now) result }
 {
     let mut after = pos;
     for byte in bytes {

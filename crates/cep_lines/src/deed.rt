@@ -33,7 +33,8 @@ pub fn put_step(program: &Program, offer: &Offer, out: &mut Text) -> Result<(), 
 pub fn put_by(program: &Program, proof: &Derivation, out: &mut Text) -> Result<(), AllocError>
     requires { IsProofOf program.now (proof_of proof.now) }
     ensures ok { OnOk result (out.new ≡ out.old ++ by_line program.now (proof_of proof.now)) }
-    ensures err { OnErr result (IsBegun out.old (by_line program.now (proof_of proof.now)) out.new) }
+    ensures err { OnErr result (IsBegun out.old
+        (by_line program.now (proof_of proof.now)) out.new) }
 {
     out.append(b"by ")?;
     put_proof(program, proof, out)?;
@@ -44,7 +45,8 @@ pub fn put_by(program: &Program, proof: &Derivation, out: &mut Text) -> Result<(
 fn put_proofs(program: &Program, proofs: &[Derivation], out: &mut Text) -> Result<(), AllocError>
     requires { AllByRecursion (IsProofOf program.now) (map proof_of proofs.now) }
     ensures ok { OnOk result (out.new ≡ out.old ++ by_lines program.now (map proof_of proofs.now)) }
-    ensures err { OnErr result (IsBegun out.old (by_lines program.now (map proof_of proofs.now)) out.new) }
+    ensures err { OnErr result (IsBegun out.old
+        (by_lines program.now (map proof_of proofs.now)) out.new) }
 {
     for proof in proofs {
         put_by(program, proof, out)?;
@@ -74,8 +76,10 @@ fn put_expected_listing(
     out: &mut Text,
 ) -> Result<(), AllocError>
     requires { IsState program.now.signature state.now }
-    ensures ok { OnOk result (out.new ≡ out.old ++ expected_listing program.now.signature number state.now) }
-    ensures err { OnErr result (IsBegun out.old (expected_listing program.now.signature number state.now) out.new) }
+    ensures ok { OnOk result (out.new
+        ≡ out.old ++ expected_listing program.now.signature number state.now) }
+    ensures err { OnErr result (IsBegun out.old
+        (expected_listing program.now.signature number state.now) out.new) }
 {
     if Version::Two.lists(number) {
         put_mid(program, number, state, out)
@@ -103,9 +107,11 @@ pub fn put_deed(
     requires next { IfSome next (λ stage. stage < length program.now.stages) }
     requires state { IsState program.now.signature state.now }
     ensures ok { OnOk result
-        (out.new ≡ out.old ++ deed_lines program.now offer.now (map proof_of proofs.now) next number state.now) }
+        (out.new ≡ out.old ++ deed_lines program.now offer.now
+        (map proof_of proofs.now) next number state.now) }
     ensures err { OnErr result
-        (IsBegun out.old (deed_lines program.now offer.now (map proof_of proofs.now) next number state.now) out.new) }
+        (IsBegun out.old (deed_lines program.now offer.now
+        (map proof_of proofs.now) next number state.now) out.new) }
 {
     put_step(program, offer, out)?;
     put_proofs(program, proofs, out)?;

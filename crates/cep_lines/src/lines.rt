@@ -38,8 +38,10 @@ pub fn put_have(
     out: &mut Text,
 ) -> Result<(), AllocError>
     requires { IsTypedGround program.now.signature (atom_of atom.now) }
-    ensures ok { OnOk result (out.new ≡ out.old ++ have_line program.now.signature (atom_of atom.now, count)) }
-    ensures err { OnErr result (IsBegun out.old (have_line program.now.signature (atom_of atom.now, count)) out.new) }
+    ensures ok { OnOk result (out.new
+        ≡ out.old ++ have_line program.now.signature (atom_of atom.now, count)) }
+    ensures err { OnErr result (IsBegun out.old
+        (have_line program.now.signature (atom_of atom.now, count)) out.new) }
 {
     out.append(b"have ")?;
     out.number(u64::from(count))?;
@@ -80,7 +82,8 @@ pub fn put_stage(program: &Program, stage: u32, out: &mut Text) -> Result<(), Al
 pub fn put_mid(program: &Program, step: u32, state: &Bag, out: &mut Text) -> Result<(), AllocError>
     requires { IsState program.now.signature state.now }
     ensures ok { OnOk result (out.new ≡ out.old ++ mid_lines program.now.signature step state.now) }
-    ensures err { OnErr result (IsBegun out.old (mid_lines program.now.signature step state.now) out.new) }
+    ensures err { OnErr result (IsBegun out.old
+        (mid_lines program.now.signature step state.now) out.new) }
 {
     out.append(b"state ")?;
     out.number(u64::from(step))?;
@@ -98,7 +101,8 @@ pub fn put_end(
 ) -> Result<(), AllocError>
     requires { IsState program.now.signature state.now }
     ensures ok { OnOk result (out.new ≡ out.old ++ end_lines program.now.signature word state.now) }
-    ensures err { OnErr result (IsBegun out.old (end_lines program.now.signature word state.now) out.new) }
+    ensures err { OnErr result (IsBegun out.old
+        (end_lines program.now.signature word state.now) out.new) }
 {
     out.append(b"end ")?;
     out.append(word.text())?;

@@ -40,8 +40,10 @@ pub fn put_offers<M: Matcher>(
     requires listed { group < length (M.offers_held matcher.now) }
     requires offers { All (IsOfferOf program.now) (offers_of (M.offers_held matcher.now) group) }
     requires few { length (offers_of (M.offers_held matcher.now) group) ≤ MOST_OFFERS }
-    ensures ok { OnOk result (out.new ≡ out.old ++ offer_lines program.now 1 (offers_of (M.offers_held matcher.now) group)) }
-    ensures err { OnErr result (IsBegun out.old (offer_lines program.now 1 (offers_of (M.offers_held matcher.now) group)) out.new) }
+    ensures ok { OnOk result (out.new
+        ≡ out.old ++ offer_lines program.now 1 (offers_of (M.offers_held matcher.now) group)) }
+    ensures err { OnErr result (IsBegun out.old
+        (offer_lines program.now 1 (offers_of (M.offers_held matcher.now) group)) out.new) }
 {
     for i in 0..matcher.count(group) {
         put_offer_line(program, i as u32 + 1, matcher.offer(group, i), out)?;

@@ -111,8 +111,10 @@ pub(crate) fn behind_whole(
     mut log: Log,
 ) -> Result<Option<SoFar>, AllocError>
     requires { HasRoom 0 log }
-    ensures some { IfOk result (λ read. IfSome read (Becomes vocabulary.now number line.now (Whole log))) }
-    ensures none { IfOk result (λ read. IfNone read ((new : SoFar) → ¬ (Becomes vocabulary.now number line.now (Whole log) new))) }
+    ensures some { IfOk result (λ read.
+        IfSome read (Becomes vocabulary.now number line.now (Whole log))) }
+    ensures none { IfOk result (λ read.
+        IfNone read ((new : SoFar) → ¬ (Becomes vocabulary.now number line.now (Whole log) new))) }
 {
     if !log.steps.is_empty() {
         return begun(alloc, vocabulary, number, line, log);
@@ -137,8 +139,11 @@ pub(crate) fn behind_listed(
     mut mid: LogMid,
 ) -> Result<Option<SoFar>, AllocError>
     requires { HasRoom 1 log }
-    ensures some { IfOk result (λ read. IfSome read (Becomes vocabulary.now number line.now (Listed log step mid))) }
-    ensures none { IfOk result (λ read. IfNone read ((new : SoFar) → ¬ (Becomes vocabulary.now number line.now (Listed log step mid) new))) }
+    ensures some { IfOk result (λ read.
+        IfSome read (Becomes vocabulary.now number line.now (Listed log step mid))) }
+    ensures none { IfOk result (λ read.
+        IfNone read ((new : SoFar)
+        → ¬ (Becomes vocabulary.now number line.now (Listed log step mid) new))) }
 {
     match next_listed(alloc, vocabulary, line, &mid.state)? {
         Some(have) => {
@@ -158,8 +163,10 @@ fn begun(
     log: Log,
 ) -> Result<Option<SoFar>, AllocError>
     requires { HasRoom 0 log }
-    ensures some { IfOk result (λ read. IfSome read (BeginsNext vocabulary.now number line.now log)) }
-    ensures none { IfOk result (λ read. IfNone read ((new : SoFar) → ¬ (BeginsNext vocabulary.now number line.now log new))) }
+    ensures some { IfOk result (λ read.
+        IfSome read (BeginsNext vocabulary.now number line.now log)) }
+    ensures none { IfOk result (λ read.
+        IfNone read ((new : SoFar) → ¬ (BeginsNext vocabulary.now number line.now log new))) }
 {
     if let Some(word) = end_line(line) {
         return Ok(Some(SoFar::Ended(log, end_begun(alloc, number, word))));
@@ -193,7 +200,9 @@ pub(crate) fn behind_unlisted(
     step: LogStep,
 ) -> Option<SoFar>
     requires { HasRoom 0 log }
-    ensures { MatchOption result (line.now ≢ state_text (next_number log)) (λ new. (line.now ≡ state_text (next_number log)) × (new ≡ Listed log step (mid_begun number))) }
+    ensures { MatchOption result (line.now ≢ state_text (next_number log))
+        (λ new. (line.now ≡ state_text (next_number log))
+        × (new ≡ Listed log step (mid_begun number))) }
 {
     if is_state_line(line, next_number(&log)) {
         Some(SoFar::Listed(log, step, mid_begun(alloc, number)))
@@ -221,7 +230,8 @@ pub(crate) fn behind_part(
     requires room { HasRoom 0 log }
     requires rule { step.offer.rule < length vocabulary.now.rules }
     ensures some { IfOk result (λ read. IfSome read (GoesOnStep vocabulary.now line.now log step)) }
-    ensures none { IfOk result (λ read. IfNone read ((new : SoFar) → ¬ (GoesOnStep vocabulary.now line.now log step new))) }
+    ensures none { IfOk result (λ read.
+        IfNone read ((new : SoFar) → ¬ (GoesOnStep vocabulary.now line.now log step new))) }
 {
     let rule = vocabulary.parts().rules.get(step.offer.rule as usize);
     if step.proofs.len() < rule.backs.len() {
@@ -252,7 +262,8 @@ pub(crate) fn behind_end(
     mut end: LogEnd,
 ) -> Result<Option<SoFar>, AllocError>
     ensures some { IfOk result (λ read. IfSome read (GoesOnEnd vocabulary.now line.now log end)) }
-    ensures none { IfOk result (λ read. IfNone read ((new : SoFar) → ¬ (GoesOnEnd vocabulary.now line.now log end new))) }
+    ensures none { IfOk result (λ read.
+        IfNone read ((new : SoFar) → ¬ (GoesOnEnd vocabulary.now line.now log end new))) }
 {
     match next_listed(alloc, vocabulary, line, &end.state)? {
         Some(have) => {
@@ -301,8 +312,12 @@ fn next_listed(
     line: &[u8],
     haves: &Haves,
 ) -> Result<Option<Have>, AllocError>
-    ensures some { IfOk result (λ read. IfSome read (λ have. IsHaveLine vocabulary.now line.now (have_of have) × IsBehind haves.now (have_of have).0)) }
-    ensures none { IfOk result (λ read. IfNone read ((entry : AtomTree × ℕ) → IsHaveLine vocabulary.now line.now entry → IsBehind haves.now entry.0 → ⊥)) }
+    ensures some { IfOk result (λ read.
+        IfSome read (λ have. IsHaveLine vocabulary.now line.now (have_of have)
+        × IsBehind haves.now (have_of have).0)) }
+    ensures none { IfOk result (λ read.
+        IfNone read ((entry : AtomTree × ℕ) → IsHaveLine vocabulary.now line.now entry
+        → IsBehind haves.now entry.0 → ⊥)) }
 {
     // No line says two entries: that is known from here on.
     one_value();

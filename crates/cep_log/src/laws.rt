@@ -58,17 +58,23 @@ pub fn one_log()
 /// The texts of which lines are made can be written as one line each, and lines that are written
 /// one after another are the lines of what was written.
 pub fn lines_are_read_as_written()
-    ensures lines { (lines : List (List ℕ)) → AllByRecursion IsOneLine lines → AreLines (flat_map line lines) lines }
+    ensures lines { (lines : List (List ℕ)) → AllByRecursion IsOneLine lines
+        → AreLines (flat_map line lines) lines }
     ensures numbers { (number : ℕ) → IsOneLine (decimal number) }
-    ensures atoms { (program : Parts) (a : AtomTree) → IsProgram program → IsTypedGround program.signature a → IsOneLine (atom_text program.signature a) }
-    ensures offers { (program : Parts) (offer : Offer) → IsProgram program → IsOfferOf program offer → IsOneLine (offer_text program offer) }
-    ensures derivations { (program : Parts) (proof : ProofTree) → IsProgram program → IsProofOf program proof → IsOneLine (proof_text program proof) }
-    ensures stages { (program : Parts) (stage : ℕ) → IsProgram program → stage < length program.stages → IsOneLine (stage_name (slice_get program.stages stage)) }
+    ensures atoms { (program : Parts) (a : AtomTree) → IsProgram program
+        → IsTypedGround program.signature a → IsOneLine (atom_text program.signature a) }
+    ensures offers { (program : Parts) (offer : Offer) → IsProgram program → IsOfferOf program offer
+        → IsOneLine (offer_text program offer) }
+    ensures derivations { (program : Parts) (proof : ProofTree) → IsProgram program
+        → IsProofOf program proof → IsOneLine (proof_text program proof) }
+    ensures stages { (program : Parts) (stage : ℕ) → IsProgram program
+        → stage < length program.stages → IsOneLine (stage_name (slice_get program.stages stage)) }
 {}
 
 /// The entries of a state that fits are a listing.
 pub fn states_are_listings()
-    ensures { (signature : Signature) (state : Multiset) → IsState signature state → Fits state → IsListing signature (finite.entries state) }
+    ensures { (signature : Signature) (state : Multiset) → IsState signature state → Fits state
+        → IsListing signature (finite.entries state) }
 {
     bags_are_lawful();
 }
@@ -82,9 +88,11 @@ pub fn logs_are_read_as_written()
         → IsLegal program log
         → TellLog program lines log
         → length (flat_map line lines) ≤ MOST_LOG
-        → (read : Log) × HasLog program (flat_map line lines) read × IsLegal program read × (read.version ≡ log.version) × TellTheSame SayTheSame log read }
+        → (read : Log) × HasLog program (flat_map line lines) read × IsLegal program read
+        × (read.version ≡ log.version) × TellTheSame SayTheSame log read }
     ensures few { (lines : List (List ℕ)) → length lines ≤ length (flat_map line lines) }
-    ensures long { (program : Parts) (log : Log) (lines : List (List ℕ)) → TellLog program lines log → length log.steps ≤ length lines }
+    ensures long { (program : Parts) (log : Log) (lines : List (List ℕ)) → TellLog program lines log
+        → length log.steps ≤ length lines }
     ensures text { (program : Parts) (one other : Log)
         → one.version ≡ other.version
         → TellTheSame SayTheSame one other
@@ -110,7 +118,8 @@ pub fn renewals_have_one_text()
 /// the program begins, and how they ended, is legal. What is written of them, with remarks or none
 /// between them, has such a log, if it is not too long. So a check accepts it.
 pub fn deeds_have_legal_logs()
-    ensures legal { (program : Parts) (height : ℕ) (deeds : List Deed) (last : Position) (word : EndWord) (log : Log)
+    ensures legal { (program : Parts) (height : ℕ) (deeds : List Deed) (last : Position)
+        (word : EndWord) (log : Log)
         → IsProgram program
         → IsHeight height
         → AreDeeds program height (start_of program) deeds last
@@ -119,7 +128,8 @@ pub fn deeds_have_legal_logs()
         → log.lines ≤ MOST_LOG
         → length log.steps ≤ log.lines
         → IsLegal program log }
-    ensures written { (program : Parts) (height : ℕ) (deeds : List Deed) (last : Position) (word : EndWord) (bytes : List ℕ)
+    ensures written { (program : Parts) (height : ℕ) (deeds : List Deed) (last : Position)
+        (word : EndWord) (bytes : List ℕ)
         → IsProgram program
         → IsHeight height
         → AreDeeds program height (start_of program) deeds last

@@ -29,7 +29,8 @@ pub(crate) fn is_passed_over(line: &[u8]) -> bool
 
 // The version that the line says.
 pub(crate) fn version_line(line: &[u8]) -> Option<Version>
-    ensures { MatchOption result ((version : Version) → line.now ≢ version_text version) (λ version. line.now ≡ version_text version) }
+    ensures { MatchOption result ((version : Version)
+        → line.now ≢ version_text version) (λ version. line.now ≡ version_text version) }
 {
     match line {
         b"ceptre 1" => Some(Version::One),
@@ -54,7 +55,8 @@ pub(crate) fn height_line(line: &[u8]) -> Option<u32>
 
 // The stage that the line names.
 pub(crate) fn stage_line(vocabulary: &Vocabulary, line: &[u8]) -> Option<u32>
-    ensures { MatchOption result ((stage : ℕ) → ¬ (IsStageLine vocabulary.now line.now stage)) (IsStageLine vocabulary.now line.now) }
+    ensures { MatchOption result ((stage : ℕ)
+        → ¬ (IsStageLine vocabulary.now line.now stage)) (IsStageLine vocabulary.now line.now) }
 {
     vocabulary.stage(strip(b"stage ", line)?)
 }
@@ -65,8 +67,10 @@ pub(crate) fn have_line(
     vocabulary: &Vocabulary,
     line: &[u8],
 ) -> Result<Option<Have>, AllocError>
-    ensures some { IfOk result (λ read. IfSome read (λ have. IsHaveLine vocabulary.now line.now (have_of have))) }
-    ensures none { IfOk result (λ read. IfNone read ((entry : AtomTree × ℕ) → ¬ (IsHaveLine vocabulary.now line.now entry))) }
+    ensures some { IfOk result (λ read.
+        IfSome read (λ have. IsHaveLine vocabulary.now line.now (have_of have))) }
+    ensures none { IfOk result (λ read.
+        IfNone read ((entry : AtomTree × ℕ) → ¬ (IsHaveLine vocabulary.now line.now entry))) }
 {
     let Some((count, text)) = counted(line) else {
         return Ok(None);
@@ -80,8 +84,10 @@ pub(crate) fn have_line(
 // The count that a line of a listing says, and the text behind it.
 fn counted(line: &[u8]) -> Option<(u32, &[u8])>
     ensures { MatchOption result
-        ((count : ℕ) (text : List ℕ) → 1 ≤ count → count ≤ MOST_COPIES → line.now ≢ codes "have " ++ (decimal count ++ (codes " " ++ text)))
-        (λ x. (1 ≤ x.0) × (x.0 ≤ MOST_COPIES) × (line.now ≡ codes "have " ++ (decimal x.0 ++ (codes " " ++ x.1.now)))) }
+        ((count : ℕ) (text : List ℕ) → 1 ≤ count → count ≤ MOST_COPIES
+        → line.now ≢ codes "have " ++ (decimal count ++ (codes " " ++ text)))
+        (λ x. (1 ≤ x.0) × (x.0 ≤ MOST_COPIES)
+        × (line.now ≡ codes "have " ++ (decimal x.0 ++ (codes " " ++ x.1.now)))) }
 {
     let (word, rest) = cut_word(strip(b"have ", line)?);
     let text = strip(b" ", rest)?;
@@ -100,7 +106,8 @@ pub(crate) fn step_line(
     line: &[u8],
 ) -> Result<Option<Offer>, AllocError>
     ensures some { IfOk result (λ read. IfSome read (IsStepLine vocabulary.now line.now)) }
-    ensures none { IfOk result (λ read. IfNone read ((offer : Offer) → ¬ (IsStepLine vocabulary.now line.now offer))) }
+    ensures none { IfOk result (λ read.
+        IfNone read ((offer : Offer) → ¬ (IsStepLine vocabulary.now line.now offer))) }
 {
     match strip(b"step ", line) {
         Some(text) => read_offer(alloc, vocabulary, text),
@@ -114,8 +121,10 @@ pub(crate) fn by_line(
     vocabulary: &Vocabulary,
     line: &[u8],
 ) -> Result<Option<Derivation>, AllocError>
-    ensures some { IfOk result (λ read. IfSome read (λ proof. IsByLine vocabulary.now line.now (proof_of proof))) }
-    ensures none { IfOk result (λ read. IfNone read ((proof : ProofTree) → ¬ (IsByLine vocabulary.now line.now proof))) }
+    ensures some { IfOk result (λ read.
+        IfSome read (λ proof. IsByLine vocabulary.now line.now (proof_of proof))) }
+    ensures none { IfOk result (λ read.
+        IfNone read ((proof : ProofTree) → ¬ (IsByLine vocabulary.now line.now proof))) }
 {
     match strip(b"by ", line) {
         Some(text) => read_proof(alloc, vocabulary, text),
@@ -136,14 +145,16 @@ pub(crate) fn is_state_line(line: &[u8], number: u32) -> bool
 
 // The word of the end that the line says.
 pub(crate) fn end_line(line: &[u8]) -> Option<EndWord>
-    ensures { MatchOption result ((word : EndWord) → ¬ (IsEndLine line.now word)) (IsEndLine line.now) }
+    ensures { MatchOption result ((word : EndWord)
+        → ¬ (IsEndLine line.now word)) (IsEndLine line.now) }
 {
     end_word(strip(b"end ", line)?)
 }
 
 // The end word of this text.
 fn end_word(text: &[u8]) -> Option<EndWord>
-    ensures { MatchOption result ((word : EndWord) → text.now ≢ ending_word word) (λ word. text.now ≡ ending_word word) }
+    ensures { MatchOption result ((word : EndWord)
+        → text.now ≢ ending_word word) (λ word. text.now ≡ ending_word word) }
 {
     match text {
         b"quiet" => Some(EndWord::Quiet),
@@ -169,7 +180,8 @@ pub(crate) fn names_no_rule(vocabulary: &Vocabulary, line: &[u8]) -> bool
 
 // Whether some rule has the name.
 fn is_rule(vocabulary: &Vocabulary, name: &[u8]) -> bool
-    ensures { IsTrue result ↔ ((rule : Rule) × Contains vocabulary.now.rules rule × (rule.name ≡ name.now)) }
+    ensures { IsTrue result ↔ ((rule : Rule) × Contains vocabulary.now.rules rule
+        × (rule.name ≡ name.now)) }
 {
     vocabulary
         .parts()

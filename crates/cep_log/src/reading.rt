@@ -79,9 +79,13 @@ fn passed(
     so_far: SoFar,
 ) -> Result<Result<SoFar, LogFault>, AllocError>
     requires { CanGrow vocabulary.now so_far }
-    ensures taken { IfOk result (λ read. IfOk read (MovesOn vocabulary.now number line.now so_far)) }
-    ensures nowhere { IfOk result (λ read. IfErr read (λ fault. (new : SoFar) → ¬ (MovesOn vocabulary.now number line.now so_far new))) }
-    ensures fault { IfOk result (λ read. IfErr read (IsFaultOf vocabulary.now number line.now so_far)) }
+    ensures taken { IfOk result (λ read.
+        IfOk read (MovesOn vocabulary.now number line.now so_far)) }
+    ensures nowhere { IfOk result (λ read.
+        IfErr read (λ fault. (new : SoFar)
+        → ¬ (MovesOn vocabulary.now number line.now so_far new))) }
+    ensures fault { IfOk result (λ read.
+        IfErr read (IsFaultOf vocabulary.now number line.now so_far)) }
 {
     if is_passed_over(line) {
         return Ok(Ok(so_far));
@@ -102,7 +106,8 @@ fn may_step(so_far: &SoFar) -> bool
 
 // Why the line does not fit, by whether a step may stand there.
 fn fault_of(vocabulary: &Vocabulary, number: u32, line: &[u8], may_step: bool) -> LogFault
-    ensures { (so_far : SoFar) → (IsTrue may_step ↔ MayStep so_far) → IsFaultOf vocabulary.now number line.now so_far result }
+    ensures { (so_far : SoFar) → (IsTrue may_step ↔ MayStep so_far)
+        → IsFaultOf vocabulary.now number line.now so_far result }
 {
     if may_step && names_no_rule(vocabulary, line) {
         LogFault::NoRule { line: number }
@@ -120,8 +125,10 @@ fn taken(
     so_far: SoFar,
 ) -> Result<Option<SoFar>, AllocError>
     requires { CanGrow vocabulary.now so_far }
-    ensures some { IfOk result (λ read. IfSome read (Becomes vocabulary.now number line.now so_far)) }
-    ensures none { IfOk result (λ read. IfNone read ((new : SoFar) → ¬ (Becomes vocabulary.now number line.now so_far new))) }
+    ensures some { IfOk result (λ read.
+        IfSome read (Becomes vocabulary.now number line.now so_far)) }
+    ensures none { IfOk result (λ read.
+        IfNone read ((new : SoFar) → ¬ (Becomes vocabulary.now number line.now so_far new))) }
 {
     match so_far {
         SoFar::Nothing => Ok(version_line(line).map(SoFar::Begun)),

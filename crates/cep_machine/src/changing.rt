@@ -30,7 +30,8 @@ impl<M: Matcher> Config<M> {
         ensures same_height { IfOk result
             (λ config. M.height_held config.matcher ≡ M.height_held self.matcher) }
         ensures ticked { IfOk result (λ _. RoseBy
-            (M.may_edit program.now self.state (M.height_held self.matcher) change.now.taken change.now.added)
+            (M.may_edit program.now self.state
+            (M.height_held self.matcher) change.now.taken change.now.added)
             steps.old steps.new) }
         ensures never_falls { steps.old ≤ steps.new }
     {

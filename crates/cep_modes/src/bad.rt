@@ -17,7 +17,9 @@ use std::alloc::{AllocError, Global};
 // All calls of the pairs that the rules' backward premises lead to.
 fn calls_of(alloc: Global, parts: &Parts) -> Result<Vec<Call>, AllocError>
     requires { AreInOrder parts.now }
-    ensures { IfOk result (λ calls. IsClosed parts.now.clauses (length parts.now.signature.preds * 256 + 1) (all_places parts.now.rules) calls.items) }
+    ensures { IfOk result (λ calls.
+        IsClosed parts.now.clauses (length parts.now.signature.preds * 256 + 1)
+        (all_places parts.now.rules) calls.items) }
 {
     types_are_lawful();
     let numbers = table(alloc, &parts.clauses, parts.signature.preds.len())?;
@@ -28,7 +30,8 @@ fn calls_of(alloc: Global, parts: &Parts) -> Result<Vec<Call>, AllocError>
 // A flag for each pair, which is set where it is bad, of those that the rules' backward premises call.
 pub(crate) fn bad_pairs(alloc: Global, parts: &Parts) -> Result<Vec<bool>, AllocError>
     requires { AreInOrder parts.now }
-    ensures { IfOk result (λ marked. TellsBad parts.now.clauses (all_places parts.now.rules) marked.items) }
+    ensures { IfOk result (λ marked.
+        TellsBad parts.now.clauses (all_places parts.now.rules) marked.items) }
 {
     types_are_lawful();
     bad_pairs_are_those_that_fail();

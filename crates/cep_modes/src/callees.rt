@@ -17,7 +17,8 @@ pub(crate) const SETS: usize = 256;
 // Adds the numbers of the pairs that the goals call, each of which makes its variables known.
 fn add_calls(known: &mut [bool], goals: &AtomList, found: &mut Vec<usize>) -> Result<(), AllocError>
     requires { AllByRecursion (IsPlain (length known.old)) goals.now }
-    ensures found { OnOk result (found.new.items ≡ found.old.items ++ places_of (holds known.old) goals.now) }
+    ensures found { OnOk result (found.new.items
+        ≡ found.old.items ++ places_of (holds known.old) goals.now) }
     ensures known { OnOk result (holds known.new ≡ known_after_all (holds known.old) goals.now) }
 {
     for i in 0..goals.len() {
@@ -31,7 +32,8 @@ fn add_calls(known: &mut [bool], goals: &AtomList, found: &mut Vec<usize>) -> Re
 // Adds the numbers that the clause calls whose head is known at the positions that the number tells.
 fn add_callees(clause: &Clause, positions: usize, found: &mut Vec<usize>) -> Result<(), AllocError>
     requires { IsPlainClause 32 (clause_of clause.now) }
-    ensures { OnOk result (found.new.items ≡ found.old.items ++ clause_callees (positions_of positions) (clause_of clause.now)) }
+    ensures { OnOk result (found.new.items
+        ≡ found.old.items ++ clause_callees (positions_of positions) (clause_of clause.now)) }
 {
     let mut known = unknown();
     learn_at(&mut known, positions, &clause.head.args);
@@ -62,7 +64,8 @@ pub(crate) fn table(
     preds: usize,
 ) -> Result<Vec<Vec<usize>>, AllocError>
     ensures many { IfOk result (λ table. length table.items ≡ preds) }
-    ensures numbers { IfOk result (λ table. IsClauseTable clauses.now 0 (map (λ numbers. numbers.items) table.items)) }
+    ensures numbers { IfOk result (λ table.
+        IsClauseTable clauses.now 0 (map (λ numbers. numbers.items) table.items)) }
 {
     let mut table = Vec::new(alloc);
     for pred in 0..preds {
@@ -111,7 +114,8 @@ pub(crate) fn calls_of_rule(alloc: Global, rule: &Rule) -> Result<Vec<usize>, Al
 
 // Those of all rules.
 pub(crate) fn calls_of_rules(alloc: Global, rules: &Rules) -> Result<Vec<usize>, AllocError>
-    requires premises { AllByRecursion (λ rule. AllByRecursion (IsPlain 32) (needed_of rule)) rules.now }
+    requires premises { AllByRecursion
+        (λ rule. AllByRecursion (IsPlain 32) (needed_of rule)) rules.now }
     requires backs { AllByRecursion (λ rule. AllByRecursion (IsPlain 32) rule.backs) rules.now }
     ensures { IfOk result (λ found. found.items ≡ all_places rules.now) }
 {

@@ -53,7 +53,8 @@ fn learn(known: &mut [bool], t: &Term)
 #[cycle(learning)]
 pub(crate) fn learn_all(known: &mut [bool], args: &Args)
     requires { AreInRange (length known.old) (trees_of args.now) }
-    ensures { holds known.new ≡ either (holds known.old) (groundness.occurs_among (trees_of args.now)) }
+    ensures { holds known.new ≡ either (holds known.old)
+        (groundness.occurs_among (trees_of args.now)) }
 {
     match args {
         Args::Nil => {}
@@ -67,7 +68,8 @@ pub(crate) fn learn_all(known: &mut [bool], args: &Args)
 // Makes all variables of the term known, where this says so.
 fn learn_where(known: &mut [bool], is_so: bool, t: &Term)
     requires { IsInRange (length known.old) (tree_of t.now) }
-    ensures { holds known.new ≡ either (holds known.old) (λ v. is_so && groundness.occurs (tree_of t.now) v) }
+    ensures { holds known.new ≡ either (holds known.old)
+        (λ v. is_so && groundness.occurs (tree_of t.now) v) }
 {
     if is_so {
         learn(known, t);
@@ -77,7 +79,8 @@ fn learn_where(known: &mut [bool], is_so: bool, t: &Term)
 // Makes the variables of the arguments at the positions that the number tells known.
 pub(crate) fn learn_at(known: &mut [bool], positions: usize, args: &Args)
     requires { AreInRange (length known.old) (trees_of args.now) }
-    ensures { holds known.new ≡ either (holds known.old) (groundness.known_at (positions_of positions) (trees_of args.now)) }
+    ensures { holds known.new ≡ either (holds known.old)
+        (groundness.known_at (positions_of positions) (trees_of args.now)) }
 {
     match args {
         Args::Nil => {}

@@ -27,7 +27,8 @@ pub(crate) fn no_flags(alloc: Global, count: usize) -> Result<Vec<bool>, AllocEr
 fn see(numbers: &[usize], seen: &mut [bool], queue: &mut Vec<usize>) -> Result<(), AllocError>
     requires { AllByRecursion (λ n. n < length seen.old) numbers.now }
     ensures seen { OnOk result (seen.new ≡ seen_after numbers.now seen.old) }
-    ensures queue { OnOk result (queue.new.items ≡ queue_after numbers.now seen.old queue.old.items) }
+    ensures queue { OnOk result (queue.new.items
+        ≡ queue_after numbers.now seen.old queue.old.items) }
 {
     for n in numbers {
         if !seen[*n] {
@@ -62,8 +63,10 @@ pub(crate) fn reached(
     requires table { IsClauseTable clauses.now 0 (map (λ numbers. numbers.items) table.now.items) }
     requires size { length table.now.items ≤ 1024 }
     requires first { AllByRecursion (λ n. n < length table.now.items * 256 + 1) first.now }
-    requires callees { (n : ℕ) → AllByRecursion (λ m. m < length table.now.items * 256 + 1) (callees clauses.now n) }
-    ensures { IfOk result (λ calls. IsClosed clauses.now (length table.now.items * 256 + 1) first.now calls.items) }
+    requires callees { (n : ℕ) → AllByRecursion (λ m. m < length table.now.items * 256 + 1)
+        (callees clauses.now n) }
+    ensures { IfOk result (λ calls.
+        IsClosed clauses.now (length table.now.items * 256 + 1) first.now calls.items) }
 {
     let mut flags = no_flags(alloc, table.len() * SETS + 1)?;
     let seen = flags.as_mut_slice();

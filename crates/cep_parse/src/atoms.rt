@@ -44,7 +44,8 @@ fn set_args(nodes: &mut RawNodes, index: usize, args: u32)
 
 // A term ended in what is open.
 fn end_term(atom: &mut AtomSoFar) -> Result<Growth, AllocError>
-    ensures { IfOk result (λ growth. grown_to growth atom.new ≡ Going (child_in atom.old.levels atom.old)) }
+    ensures { IfOk result (λ growth. grown_to growth atom.new
+        ≡ Going (child_in atom.old.levels atom.old)) }
 {
     match atom.levels.pop() {
         None => {
@@ -77,7 +78,8 @@ fn open(atom: &mut AtomSoFar, level: Level) -> Result<Growth, AllocError>
 
 // What a symbol does where a term may begin.
 fn grow_term(atom: &mut AtomSoFar, symbol: Symbol) -> Result<Growth, AllocError>
-    ensures { IfOk result (λ growth. grown_to growth atom.new ≡ grow_term atom.old symbol.word symbol.at) }
+    ensures { IfOk result (λ growth. grown_to growth atom.new
+        ≡ grow_term atom.old symbol.word symbol.at) }
 {
     match symbol.word {
         Word::Name => add_leaf(atom, RawKind::App, symbol.at),
@@ -90,7 +92,8 @@ fn grow_term(atom: &mut AtomSoFar, symbol: Symbol) -> Result<Growth, AllocError>
 
 // What a symbol does where no parenthesis is open.
 fn grow_flat(atom: &mut AtomSoFar, symbol: Symbol) -> Result<Growth, AllocError>
-    ensures { IfOk result (λ growth. grown_to growth atom.new ≡ grow_flat atom.old symbol.word symbol.at) }
+    ensures { IfOk result (λ growth. grown_to growth atom.new
+        ≡ grow_flat atom.old symbol.word symbol.at) }
 {
     match symbol.word {
         Word::Name | Word::Variable | Word::Blank | Word::Open => grow_term(atom, symbol),
@@ -105,7 +108,9 @@ fn grow_args(
     args: u32,
     symbol: Symbol,
 ) -> Result<Growth, AllocError>
-    ensures { IfOk result (λ growth. grown_to growth atom.new ≡ grow_args (in_level (Level.Node index args) atom.old) atom.old.levels index args symbol.word symbol.at) }
+    ensures { IfOk result (λ growth. grown_to growth atom.new
+        ≡ grow_args (in_level (Level.Node index args) atom.old) atom.old.levels index args
+        symbol.word symbol.at) }
 {
     match symbol.word {
         Word::Close => {
@@ -121,7 +126,8 @@ fn grow_args(
 
 // The atom gets a constructor after an open parenthesis.
 fn add_head(atom: &mut AtomSoFar, at: Span) -> Result<Growth, AllocError>
-    ensures { IfOk result (λ growth. grown_to growth atom.new ≡ Going (headed atom.old atom.old.levels at)) }
+    ensures { IfOk result (λ growth. grown_to growth atom.new
+        ≡ Going (headed atom.old atom.old.levels at)) }
 {
     let index = atom.nodes.len();
     atom.nodes.push(RawNode {
@@ -134,7 +140,8 @@ fn add_head(atom: &mut AtomSoFar, at: Span) -> Result<Growth, AllocError>
 
 // What a symbol does where a term is to come.
 fn grow_empty(atom: &mut AtomSoFar, symbol: Symbol) -> Result<Growth, AllocError>
-    ensures { IfOk result (λ growth. grown_to growth atom.new ≡ grow_empty (in_level Level.Empty atom.old) atom.old.levels symbol.word symbol.at) }
+    ensures { IfOk result (λ growth. grown_to growth atom.new
+        ≡ grow_empty (in_level Level.Empty atom.old) atom.old.levels symbol.word symbol.at) }
 {
     match symbol.word {
         Word::Name => add_head(atom, symbol.at),
@@ -147,7 +154,8 @@ fn grow_empty(atom: &mut AtomSoFar, symbol: Symbol) -> Result<Growth, AllocError
 
 // What a symbol does where a whole term was read.
 fn grow_whole(atom: &mut AtomSoFar, symbol: Symbol) -> Result<Growth, AllocError>
-    ensures { IfOk result (λ growth. grown_to growth atom.new ≡ grow_whole atom.old atom.old.levels symbol.word symbol.at) }
+    ensures { IfOk result (λ growth. grown_to growth atom.new
+        ≡ grow_whole atom.old atom.old.levels symbol.word symbol.at) }
 {
     match symbol.word {
         Word::Close => end_term(atom),
@@ -157,7 +165,8 @@ fn grow_whole(atom: &mut AtomSoFar, symbol: Symbol) -> Result<Growth, AllocError
 
 /// What a symbol does to an atom.
 pub(crate) fn grow(atom: &mut AtomSoFar, symbol: Symbol) -> Result<Growth, AllocError>
-    ensures { IfOk result (λ growth. grown_to growth atom.new ≡ grow atom.old symbol.word symbol.at) }
+    ensures { IfOk result (λ growth. grown_to growth atom.new
+        ≡ grow atom.old symbol.word symbol.at) }
 {
     match atom.levels.pop() {
         None => grow_flat(atom, symbol),

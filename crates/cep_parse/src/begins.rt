@@ -36,7 +36,8 @@ fn rule_begun(
     label: Option<Span>,
     symbol: Symbol,
 ) -> Result<Next, AllocError>
-    ensures { IfOk result (λ next. next ≡ before_elem (rule_from None at label []) symbol.word symbol.at) }
+    ensures { IfOk result (λ next. next
+        ≡ before_elem (rule_from None at label []) symbol.word symbol.at) }
 {
     let rule = rule_from(None, at, label, RawSide::new(alloc));
     before_elem(alloc, rule, symbol)

@@ -31,7 +31,8 @@ fn advance(
     state: State,
     symbol: Symbol,
 ) -> Result<Option<State>, AllocError>
-    ensures { IfOk result (λ next. moved items.old (step state symbol.word symbol.at) ≡ option_map (λ s. record { items = items.new; state = s }) next) }
+    ensures { IfOk result (λ next. moved items.old (step state symbol.word symbol.at)
+        ≡ option_map (λ s. record { items = items.new; state = s }) next) }
 {
     match step(alloc, state, symbol)? {
         Next::Go(next) => Ok(Some(next)),
@@ -46,7 +47,8 @@ fn advance(
 // Whether a parenthesis is one too many.
 fn is_too_deep(word: Word, depth: u32) -> bool
     requires { depth ≤ MOST_OPEN }
-    ensures { MatchBool result ((word ≡ Word.Open) × (depth ≡ MOST_OPEN)) (open_behind word depth ≤ MOST_OPEN) }
+    ensures { MatchBool result ((word ≡ Word.Open)
+        × (depth ≡ MOST_OPEN)) (open_behind word depth ≤ MOST_OPEN) }
 {
     match word {
         Word::Open => depth == MOST_OPEN,

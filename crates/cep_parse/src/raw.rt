@@ -46,7 +46,8 @@ pub enum RawElem {
 impl RawElem {
     /// The atom that it is, if it is one.
     pub fn atom(&self) -> Option<&RawAtom>
-        ensures { MatchOption result (atoms_in self.now ≡ []) (λ atom. atoms_in self.now ≡ atom.now ∷ []) }
+        ensures { MatchOption result (atoms_in self.now ≡ [])
+            (λ atom. atoms_in self.now ≡ atom.now ∷ []) }
     {
         match self {
             RawElem::Atom { atom, .. } => Some(atom),

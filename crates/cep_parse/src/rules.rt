@@ -114,7 +114,8 @@ fn at_place(rule: RuleSoFar, place: RulePlace) -> Next
 
 // An element was read that is no atom.
 fn elem_read(rule: RuleSoFar, elem: RawElem) -> Result<Next, AllocError>
-    ensures { IfOk result (λ next. next ≡ Next.Go (State.Rule (with_elem rule elem) RulePlace.Behind)) }
+    ensures { IfOk result (λ next. next
+        ≡ Next.Go (State.Rule (with_elem rule elem) RulePlace.Behind)) }
 {
     Ok(at_place(with_elem(rule, elem)?, RulePlace::Behind))
 }
@@ -147,7 +148,8 @@ pub(crate) fn after_first(
     elem: RawElem,
     symbol: Symbol,
 ) -> Result<Next, AllocError>
-    ensures { IfOk result (λ next. next ≡ behind_left (rule_from None at label (elem ∷ [])) symbol.word) }
+    ensures { IfOk result (λ next. next
+        ≡ behind_left (rule_from None at label (elem ∷ [])) symbol.word) }
 {
     let rule = rule_from(None, at, label, RawSide::new(alloc));
     behind_elem(alloc, with_elem(rule, elem)?, symbol)
@@ -155,7 +157,14 @@ pub(crate) fn after_first(
 
 // The right side of a rule begins.
 fn right_begun(alloc: Global, rule: RuleSoFar) -> RuleSoFar
-    ensures { result ≡ record { stage = rule.stage; at = rule.at; label = rule.label; left = rule.left; right = Some [] } }
+    ensures { result ≡ record {
+      stage = rule.stage;
+      at = rule.at;
+      label = rule.label;
+      left =
+          rule.left;
+      right = Some [];
+    } }
 {
     RuleSoFar {
         stage: rule.stage,
@@ -252,7 +261,8 @@ pub(crate) fn after_bag_atom(
     atom: RawAtom,
     symbol: Symbol,
 ) -> Result<Next, AllocError>
-    ensures { IfOk result (λ next. next ≡ bag_behind (record { home = bag.home; atoms = bag.atoms ++ atom ∷ [] }) symbol.word) }
+    ensures { IfOk result (λ next. next
+        ≡ bag_behind (record { home = bag.home; atoms = bag.atoms ++ atom ∷ [] }) symbol.word) }
 {
     bag.atoms.push(atom)?;
     Ok(step_bag(alloc, bag, BagPlace::Behind, symbol))

@@ -150,7 +150,8 @@ fn step_names(
 
 // After names that are an atom.
 fn names_ended(alloc: Global, name: Span, args: Spans, symbol: Symbol) -> Result<Next, AllocError>
-    ensures { IfOk result (λ next. next ≡ step_atom (atom_of_names name args) (Use.First name.from None) symbol.word symbol.at) }
+    ensures { IfOk result (λ next. next
+        ≡ step_atom (atom_of_names name args) (Use.First name.from None) symbol.word symbol.at) }
 {
     let mut atom = atom_begun(alloc, name);
     add_names(&mut atom, args.as_slice())?;

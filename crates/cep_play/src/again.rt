@@ -45,7 +45,8 @@ pub(crate) fn report_reordering(
     seed: u64,
 ) -> Result<Report, AllocError>
     requires { IsLegal program.now log.now }
-    ensures { IfOk result (λ report. ReportsReordering program.now log.now seed (report_of report)) }
+    ensures { IfOk result (λ report.
+        ReportsReordering program.now log.now seed (report_of report)) }
 {
     let reordered = reorder(alloc, program, log, seed)?;
     report_reordered(alloc, reordered)

@@ -30,7 +30,8 @@ pub(crate) fn report_dead_in<H: Shelf>(
 ) -> Result<Report, AllocError>
     ensures reported { IfOk result (λ report. ReportsNone
         (loaded H.files H.asked H.faults shelf.old shelf.new) file.now (report_of report)
-        ⊎ ReportsDeadIn (loaded H.files H.asked H.faults shelf.old shelf.new) file.now (report_of report)) }
+        ⊎ ReportsDeadIn (loaded H.files H.asked H.faults shelf.old shelf.new) file.now
+        (report_of report)) }
     ensures asked { AsksFile (loaded H.files H.asked H.faults shelf.old shelf.new) file.now result }
     ensures files { H.files shelf.new ≡ H.files shelf.old }
 {

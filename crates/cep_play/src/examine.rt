@@ -197,7 +197,8 @@ fn report_second<H: Shelf, L: Ledger>(
     ensures reported { IfOk result (λ report.
         ReportsSecond (loaded H.files H.asked H.faults shelf.old shelf.new) task program.now
         second.now (report_of report)) }
-    ensures asked { AsksFile (loaded H.files H.asked H.faults shelf.old shelf.new) second.now result }
+    ensures asked { AsksFile (loaded H.files H.asked H.faults shelf.old shelf.new) second.now
+        result }
     ensures files { H.files shelf.new ≡ H.files shelf.old }
     ensures counted { steps.old ≤ steps.new }
 {

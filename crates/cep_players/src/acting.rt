@@ -45,7 +45,8 @@ pub(crate) fn act_all<C: Console, M: Matcher, L: Ledger>(
 ) -> Result<Turned<M>, ConsoleFault>
     requires played { IsPlayed M.is_of M.height_held program.now settings start }
     requires own { group ≡ own_group start.stage }
-    requires offers { AllByRecursion (IsOffer program.now settings.height start.state group) chosen.now }
+    requires offers { AllByRecursion
+        (IsOffer program.now settings.height start.state group) chosen.now }
     requires flagged { AreAdmitted program.now start.state finite.empty chosen.now flags.now }
     requires turns { start.turns ≤ settings.limit }
     requires limit { settings.limit ≤ MOST_TURNS }

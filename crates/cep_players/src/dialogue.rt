@@ -108,7 +108,8 @@ fn all_parts<C: Console, M: Matcher, L: Ledger>(
         (position_of end.config))) }
     ensures begun { OnErr result (FellShort C.talk C.left console.old console.new whole_supply
         (IsRunInRounds program.now settings players (position_of start))) }
-    ensures played { IfOk result (λ end. IsPlayed M.is_of M.height_held program.now settings end.config) }
+    ensures played { IfOk result (λ end.
+        IsPlayed M.is_of M.height_held program.now settings end.config) }
     ensures counted { steps.old ≤ steps.new }
     ensures cause { ConsoleCause (C.faults console.old) (C.faults console.new) result }
 {

@@ -121,7 +121,8 @@ pub fn one_dialogue_in_rounds()
         → DialogueInRounds program settings players come parts end word last events rest
         → DialogueInRounds program settings players come parts' end' word' last' events' rest'
         → (map unproved_part parts ≡ map unproved_part parts')
-        × (unproved_end end ≡ unproved_end end') × (word ≡ word') × (last ≡ last') × (rest ≡ rest') }
+        × (unproved_end end ≡ unproved_end end') × (word ≡ word') × (last ≡ last')
+        × (rest ≡ rest') }
 {
     one_list_of_offers();
     one_state_after_a_step();

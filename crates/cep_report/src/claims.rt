@@ -114,7 +114,8 @@ fn put_broken(
     against: Against,
     out: &mut Text,
 ) -> Result<(), AllocError>
-    ensures { OnOk result (out.new ≡ out.old ++ claim_lines_of program.now weight.now (Some against)) }
+    ensures { OnOk result (out.new
+        ≡ out.old ++ claim_lines_of program.now weight.now (Some against)) }
 {
     out.append(b"no ")?;
     out.append(weight.name.bytes())?;

@@ -35,7 +35,8 @@ fn name_of_variable(program: &Program, rule: u32, variable: u32) -> &[u8]
 
 // Why a rule is dead.
 fn put_why(program: &Program, dead: DeadRule, out: &mut Text) -> Result<(), AllocError>
-    ensures { OnOk result (out.new ≡ out.old ++ why_text program.now (slice_get program.now.rules dead.rule) dead.why) }
+    ensures { OnOk result (out.new
+        ≡ out.old ++ why_text program.now (slice_get program.now.rules dead.rule) dead.why) }
 {
     match dead.why {
         DeadWhy::Stage(stage) => {

@@ -48,11 +48,13 @@ pub fn offers_have_one_order()
 /// A step by a rule with values for its variables leads from a state to one state. The rest that it
 /// leaves alone is unique up to the facts of the left side, and is a state if the old state is one.
 pub fn one_state_after_a_step()
-    ensures state { (signature : Signature) (rule : Rule) (values : List Tree) (old one other : Multiset)
+    ensures state { (signature : Signature) (rule : Rule) (values : List Tree)
+        (old one other : Multiset)
         → Step signature rule values old one
         → Step signature rule values old other
         → one ≡ other }
-    ensures rest { (signature : Signature) (rule : Rule) (values : List Tree) (old one other : Multiset)
+    ensures rest { (signature : Signature) (rule : Rule) (values : List Tree)
+        (old one other : Multiset)
         (step : Step signature rule values old one) (step' : Step signature rule values old other)
         (a : AtomTree)
         → (0 < count_of (left_of signature rule values) a → is_fact signature a ≡ false)
@@ -68,11 +70,13 @@ pub fn one_state_after_a_step()
 /// If a state contains the left side, it has each atom that the rule needs; and the linear ones
 /// among them, none of which is a fact, can be taken from it.
 pub fn what_is_needed_is_there()
-    ensures needed { (signature : Signature) (rule : Rule) (values : List Tree) (state : Multiset) (a : AtomTree)
+    ensures needed { (signature : Signature) (rule : Rule) (values : List Tree) (state : Multiset)
+        (a : AtomTree)
         → IsContained (left_of signature rule values) state
         → Contains (full_instances values (needed_of rule)) a
         → 0 < count_of state a }
-    ensures contained { (signature : Signature) (rule : Rule) (values : List Tree) (old new : Multiset)
+    ensures contained { (signature : Signature) (rule : Rule) (values : List Tree)
+        (old new : Multiset)
         → Step signature rule values old new
         → IsContained (left_of signature rule values) old }
     ensures taken { (signature : Signature) (rule : Rule) (values : List Tree) (state : Multiset)
@@ -84,7 +88,8 @@ pub fn what_is_needed_is_there()
     ensures used { (signature : Signature) (rule : Rule) (values : List Tree) (state : Multiset)
         → IsContained (left_of signature rule values) state
         → IsContained (gathered (used_by signature rule values)) state }
-    ensures no_facts_used { (signature : Signature) (rule : Rule) (values : List Tree) (a : AtomTree)
+    ensures no_facts_used { (signature : Signature) (rule : Rule) (values : List Tree)
+        (a : AtomTree)
         → is_fact signature a ≡ true
         → count_of (gathered (used_by signature rule values)) a ≡ 0 }
 {

@@ -78,7 +78,8 @@ pub trait Matcher: Sized + Drop {
             → is_fact program.now.signature a ≡ true → count_of taken.now a ≡ 0 }
         requires is_state { IsState program.now.signature
             (state_after program.now.signature (state_held self) taken.now added.now) }
-        requires fits { Fits (state_after program.now.signature (state_held self) taken.now added.now) }
+        requires fits { Fits (state_after program.now.signature
+            (state_held self) taken.now added.now) }
         ensures of_program { IfOk result (λ matcher. is_of program.now matcher) }
         ensures new_state { IfOk result (λ matcher. state_held matcher
             ≡ state_after program.now.signature (state_held self) taken.now added.now) }

@@ -127,7 +127,8 @@ fn nodes_among(args: &Args) -> Option<u64>
 // How many nodes the instance has.
 #[cycle(nodes_by)]
 fn nodes_by(t: &Term, values: &[Term]) -> Option<u64>
-    ensures { let nodes = term_nodes (term_instance (given (map tree_of values.now)) (tree_of t.now)) in
+    ensures { let nodes = term_nodes
+        (term_instance (given (map tree_of values.now)) (tree_of t.now)) in
         SomeIff result (nodes < 2 ^ 64) nodes }
 {
     match t {

@@ -24,7 +24,8 @@ pub enum Choice {
 /// refused call heard a front of some choice.
 pub fn choose<C: Console>(console: &mut C, n: u32, taken: &mut u64) -> Result<Choice, ConsoleFault>
     requires { taken.old ≤ MOST_TYPED }
-    ensures heard { IfOk result (λ choice. Did C.talk C.left console.old console.new (λ come events rest.
+    ensures heard { IfOk result (λ choice.
+        Did C.talk C.left console.old console.new (λ come events rest.
         Hears n come taken.old events choice rest taken.new)) }
     ensures begun { OnErr result (FellShort C.talk C.left console.old console.new (λ come. come)
         (HearsSome n taken.old)) }

@@ -160,7 +160,8 @@ pub fn decide<C: Console, M: Matcher>(
 ) -> Result<Choice, ConsoleFault>
     requires staged { config.now.stage < length program.now.stages }
     requires listed { group < length (M.offers_held config.now.matcher) }
-    requires offers { All (IsOfferOf program.now) (offers_of (M.offers_held config.now.matcher) group) }
+    requires offers { All (IsOfferOf program.now)
+        (offers_of (M.offers_held config.now.matcher) group) }
     requires some { 0 < length (offers_of (M.offers_held config.now.matcher) group) }
     requires few { length (offers_of (M.offers_held config.now.matcher) group) ≤ MOST_OFFERS }
     requires turns { config.now.turns < MOST_TURNS }

@@ -65,7 +65,8 @@ fn all_turns<C: Console, M: Matcher, L: Ledger>(
         steps.new) end.word (position_of start) (position_of end.config) end.offers)) }
     ensures begun { OnErr result (FellShort C.talk C.left console.old console.new whole_supply
         (IsRunOf program.now settings (position_of start))) }
-    ensures played { IfOk result (λ end. IsPlayed M.is_of M.height_held program.now settings end.config) }
+    ensures played { IfOk result (λ end.
+        IsPlayed M.is_of M.height_held program.now settings end.config) }
     ensures counted { steps.old ≤ steps.new }
     ensures cause { ConsoleCause (C.faults console.old) (C.faults console.new) result }
 {
@@ -153,9 +154,12 @@ pub fn play<M: Matcher, C: Console, L: Ledger>(
 ) -> Result<Tally, ConsoleFault>
     requires height { IsHeight settings.height }
     requires limit { settings.limit ≤ MOST_TURNS }
-    ensures said { IfOk result (λ tally. Says C.talk C.left console.old console.new program.now settings
+    ensures said { IfOk result (λ tally.
+        Says C.talk C.left console.old console.new program.now settings
         (λ turns ending.
-        IsTally turns ending tally × RoseBy (IsRunCost M.may_begin M.may_edit program.now settings.height (deeds_of turns)) steps.old steps.new)) }
+        IsTally turns ending tally × RoseBy
+        (IsRunCost M.may_begin M.may_edit program.now settings.height (deeds_of turns))
+        steps.old steps.new)) }
     ensures begun { OnErr result (FellShort C.talk C.left console.old console.new (λ come. come)
         (IsSomeSaid program.now settings)) }
     ensures counted { steps.old ≤ steps.new }

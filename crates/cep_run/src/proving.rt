@@ -64,7 +64,8 @@ fn prove<L: Ledger>(
     requires goal { (kinds : List ℕ) × IsGoal program.now kinds (atom_of goal.now) known.now }
     requires height { IsHeight height }
     requires valued { HasValues known.now (atom_of goal.now) }
-    requires derivable { IsDerivable program.now height (atom_instance known.now (atom_of goal.now)) }
+    requires derivable { IsDerivable program.now height
+        (atom_instance known.now (atom_of goal.now)) }
     ensures proved { IfOk result (λ proof. IsProofWithin program.now height
         (atom_instance known.now (atom_of goal.now)) (proof_of proof)) }
     ensures ticked { steps.new ≡ steps.old + 1 }

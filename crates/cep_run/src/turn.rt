@@ -74,7 +74,8 @@ pub fn act<C: Console, M: Matcher, L: Ledger>(
         (M.offers_held config.matcher) config.stage }
     requires within { place < length (offers_of (M.offers_held config.matcher) group) }
     requires turns { config.turns < MOST_TURNS }
-    ensures acted { IfOk result (IsActed C.talk C.left console.old console.new program.now settings.height
+    ensures acted { IfOk result (IsActed C.talk C.left console.old console.new program.now
+        settings.height
         (offers_of (M.offers_held config.matcher) group) place config) }
     ensures moved { IfOk result
         (IsMoved program.now (offers_of (M.offers_held config.matcher) group) place config) }
@@ -161,7 +162,8 @@ pub fn turn<C: Console, M: Matcher, L: Ledger>(
     requires limit { settings.limit ≤ MOST_TURNS }
     requires remain { config.turns < settings.limit }
     requires spent { HasSpent settings.seed config.turns spent.old }
-    ensures turned { IfOk result (IsTurned C.talk C.left console.old console.new asking_line program.now
+    ensures turned { IfOk result (IsTurned C.talk C.left console.old console.new asking_line
+        program.now
         settings (λ deed. RoseBy (IsDeedCost M.may_edit program.now settings.height deed) steps.old
         steps.new) (steps.new ≡ steps.old)
         (asked_offers (M.offers_held config.matcher) config.stage) config spent.old spent.new) }
@@ -215,7 +217,8 @@ pub fn asked_turn<C: Console, M: Matcher, L: Ledger>(
     requires here { IsOfferedHere program.now settings (position_of config) group
         (offers_of (M.offers_held config.matcher) group) }
     requires spent { HasSpent settings.seed config.turns spent.old }
-    ensures turned { IfOk result (IsTurned C.talk C.left console.old console.new asking.now program.now
+    ensures turned { IfOk result (IsTurned C.talk C.left console.old console.new asking.now
+        program.now
         settings (λ deed. RoseBy (IsDeedCost M.may_edit program.now settings.height deed) steps.old
         steps.new) (steps.new ≡ steps.old) (offers_of (M.offers_held config.matcher) group) config
         spent.old spent.new) }

@@ -29,7 +29,8 @@ impl Drop for Clauses<'_> {
 // Whether `x a : y.` is a clause with a label, and no constructor: it has no arguments, and y is a
 // predicate and no type.
 fn is_labelled(text: &[u8], kinds: &Kinds, args: &Spans, right: Span) -> bool
-    ensures { (file : List RawItem) → AreKinds file kinds.now → HaveTheirNames text.now kinds.now → result ≡ is_labelled (record { text = text.now; file = file }) args.now right }
+    ensures { (file : List RawItem) → AreKinds file kinds.now → HaveTheirNames text.now kinds.now
+        → result ≡ is_labelled (record { text = text.now; file = file }) args.now right }
 {
     let name = slice_at(text, right);
     args.len() == 0 && !kinds.sorts.places.has_name(name) && kinds.preds.places.has_name(name)
@@ -38,7 +39,11 @@ fn is_labelled(text: &[u8], kinds: &Kinds, args: &Spans, right: Span) -> bool
 impl<'a> Clauses<'a> {
     // One item more, where the names of types and predicates are known.
     fn sort_out(&mut self, text: &[u8], kinds: &Kinds, item: &'a RawItem) -> Result<(), AllocError>
-        ensures { OnOk result ((file before : List RawItem) → AreKinds file kinds.now → HaveTheirNames text.now kinds.now → AreClausesAmong (record { text = text.now; file = file }) before self.old → AreClausesAmong (record { text = text.now; file = file }) (before ++ item.entry.now ∷ []) self.new) }
+        ensures { OnOk result ((file before : List RawItem) → AreKinds file kinds.now
+            → HaveTheirNames text.now kinds.now
+            → AreClausesAmong (record { text = text.now; file = file }) before self.old
+            → AreClausesAmong (record { text = text.now; file = file })
+            (before ++ item.entry.now ∷ []) self.new) }
     {
         match item {
             RawItem::Clause { head, goals, .. } => {
@@ -73,7 +78,8 @@ impl<'a> Clauses<'a> {
     ) -> Result<Clauses<'a>, AllocError>
         requires kinds { AreKinds file.now kinds.now }
         requires named { HaveTheirNames text.now kinds.now }
-        ensures { IfOk result (AreClausesAmong (record { text = text.now; file = file.entry.now }) file.entry.now) }
+        ensures { IfOk result (AreClausesAmong
+            (record { text = text.now; file = file.entry.now }) file.entry.now) }
     {
         let mut clauses = Clauses {
             cons: Table::empty(alloc),

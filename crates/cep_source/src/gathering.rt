@@ -46,8 +46,10 @@ impl Drop for Kinds<'_> {
 impl<'a> Kinds<'a> {
     // One item more.
     fn gather(&mut self, text: &[u8], item: &'a RawItem) -> Result<(), AllocError>
-        ensures kinds { OnOk result ((before : List RawItem) → AreKinds before self.old → AreKinds (before ++ item.entry.now ∷ []) self.new) }
-        ensures named { OnOk result (HaveTheirNames text.now self.old → HaveTheirNames text.now self.new) }
+        ensures kinds { OnOk result ((before : List RawItem) → AreKinds before self.old
+            → AreKinds (before ++ item.entry.now ∷ []) self.new) }
+        ensures named { OnOk result (HaveTheirNames text.now self.old
+            → HaveTheirNames text.now self.new) }
     {
         match item {
             RawItem::Sort { name } => self.sorts.declare(*name, text, *name),

@@ -32,7 +32,8 @@ impl Drop for Rules<'_> {
 impl<'a> Rules<'a> {
     // One rule more. Its name is its label, or `qui/` with its number among those without, from 1.
     pub(crate) fn add_rule(&mut self, text: &[u8], rule: RuleRef<'a>) -> Result<(), AllocError>
-        ensures rules { OnOk result (self.new.table.items.items ≡ self.old.table.items.items ++ rule.entry ∷ []) }
+        ensures rules { OnOk result (self.new.table.items.items
+            ≡ self.old.table.items.items ++ rule.entry ∷ []) }
         ensures named { OnOk result (AreRules text.now self.old → AreRules text.now self.new) }
     {
         let mut name = Text::new(*self.names.allocator());
@@ -57,7 +58,8 @@ impl<'a> Rules<'a> {
         stage: Span,
         raws: &'a [RawRule],
     ) -> Result<(), AllocError>
-        ensures rules { OnOk result (map rule_item self.new.table.items.items ≡ map rule_item self.old.table.items.items ++ map (in_stage stage) raws.now) }
+        ensures rules { OnOk result (map rule_item self.new.table.items.items
+            ≡ map rule_item self.old.table.items.items ++ map (in_stage stage) raws.now) }
         ensures named { OnOk result (AreRules text.now self.old → AreRules text.now self.new) }
     {
         for raw in raws {

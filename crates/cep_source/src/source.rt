@@ -49,7 +49,8 @@ impl<'a> Model for Source<'a> {
 impl<'a> Source<'a> {
     /// What a text and its raw file declare.
     pub fn of(alloc: Global, text: &'a [u8], file: &'a RawFile) -> Result<Source<'a>, AllocError>
-        ensures { IfOk result (λ source. source ≡ record { text = text.entry.now; file = file.entry.now }) }
+        ensures { IfOk result (λ source. source
+            ≡ record { text = text.entry.now; file = file.entry.now }) }
     {
         let kinds = Kinds::of_file(alloc, text, file)?;
         let clauses = Clauses::in_file(alloc, text, file, &kinds)?;
@@ -220,7 +221,8 @@ impl<'a> Source<'a> {
 
     /// Of which kind the predicate of this name is. None where there is no such predicate.
     pub fn kind(&self, name: Span) -> Option<PredKind>
-        ensures { result ≡ option_map (λ pred. pred.kind) (pred_named self.now (said self.now name)) }
+        ensures { result ≡ option_map (λ pred. pred.kind)
+            (pred_named self.now (said self.now name)) }
     {
         Some(self.pred(name)?.kind)
     }

@@ -50,7 +50,8 @@ impl<T: Copy> Table<T> {
     // One item more, of this name, which stands at this place of the text.
     pub(crate) fn declare_as(&mut self, item: T, name: &[u8], at: u32) -> Result<(), AllocError>
         ensures items { OnOk result (self.new.items.items ≡ self.old.items.items ++ item ∷ []) }
-        ensures names { OnOk result ((names : List Named) → IsTable names self.old → IsTable (names ++ record { name = name.now; at = at } ∷ []) self.new) }
+        ensures names { OnOk result ((names : List Named) → IsTable names self.old
+            → IsTable (names ++ record { name = name.now; at = at } ∷ []) self.new) }
     {
         let place = self.items.len();
         self.items.push(item)?;
@@ -65,14 +66,16 @@ impl<T: Copy> Table<T> {
     // One item more, whose name the text says at this span.
     pub(crate) fn declare(&mut self, item: T, text: &[u8], name: Span) -> Result<(), AllocError>
         ensures items { OnOk result (self.new.items.items ≡ self.old.items.items ++ item ∷ []) }
-        ensures named { OnOk result ((span : T → Span) → span item ≡ name → IsNamed text.now span self.old → IsNamed text.now span self.new) }
+        ensures named { OnOk result ((span : T → Span) → span item ≡ name
+            → IsNamed text.now span self.old → IsNamed text.now span self.new) }
     {
         self.declare_as(item, slice_at(text, name), name.from)
     }
 
     // The item that was declared first of this name.
     pub(crate) fn first_named(&self, name: &[u8]) -> Option<T>
-        ensures { result ≡ option_and_then (slice_get self.now.items.items) (under_name self.now.places name.now) }
+        ensures { result ≡ option_and_then (slice_get self.now.items.items)
+            (under_name self.now.places name.now) }
     {
         item_at(&self.items, self.places.under(name)?)
     }

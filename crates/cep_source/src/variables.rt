@@ -32,7 +32,9 @@ pub fn blanks_behind(blanks: u64, kind: RawKind) -> Result<u64, AllocError>
 /// The name of the variable at a node, where so many blanks stand before it: what is written, or
 /// for a blank `_` and its number from 1. None at a constructor.
 pub fn variable_at(source: &Source, blanks: u64, node: &RawNode) -> Result<Option<Text>, AllocError>
-    ensures { IfOk result (λ name. option_to_list name ≡ map (λ occurrence. occurrence.name) (occurrence_at source.now blanks node.now.at node.now.kind)) }
+    ensures { IfOk result (λ name. option_to_list name
+        ≡ map (λ occurrence. occurrence.name)
+        (occurrence_at source.now blanks node.now.at node.now.kind)) }
 {
     let mut name = Text::new(source.alloc());
     match node.kind {
@@ -59,7 +61,8 @@ impl Variables {
 
     /// Meets the variable at a node, with a span.
     pub fn meet(&mut self, source: &Source, node: &RawNode, with: Span) -> Result<(), AllocError>
-        ensures { OnOk result (self.new ≡ met_site source.now self.old node.now.kind node.now.at with) }
+        ensures { OnOk result (self.new
+            ≡ met_site source.now self.old node.now.kind node.now.at with) }
     {
         if let Some(name) = variable_at(source, self.blanks, node)? {
             self.firsts.add(name.bytes(), with)?;
@@ -91,7 +94,8 @@ impl Variables {
 
     /// The variables of a clause, each with its first place.
     pub fn of_clause(source: &Source, clause: &ClauseRef) -> Result<Variables, AllocError>
-        ensures { IfOk result (AreVariables source.now ((clause_item clause.now).head ∷ (clause_item clause.now).goals)) }
+        ensures { IfOk result (AreVariables source.now
+            ((clause_item clause.now).head ∷ (clause_item clause.now).goals)) }
     {
         let mut variables = Variables::unmet(source.alloc());
         variables.meet_nodes(source, clause.head.nodes)?;

@@ -60,7 +60,8 @@ fn push_kept(
 ) -> Result<(), AllocError>
     requires { AllByRecursion (IsAtomInRange (length values.now)) (needed_of rule.now) }
     ensures { OnOk result (atoms.new ≡ atoms.old
-        ++ full_instances values.now (without (is_fact signature.now) (kept_of signature.now rule.now))) }
+        ++ full_instances values.now (without (is_fact signature.now)
+        (kept_of signature.now rule.now))) }
 {
     for i in 0..rule.premises.len() {
         let premise = rule.premises.get(i);

@@ -15,7 +15,8 @@ fn intern_term(alloc: Global, terms: &mut Keys, t: &Term) -> Result<u64, AllocEr
     ensures id { IfOk result (λ id. slice_get (terms_by terms.new) id ≡ Some (tree_of t.now)) }
     ensures keys { AreTermKeys terms.new }
     ensures front { IsFrontOf (terms_by terms.old) (terms_by terms.new) }
-    ensures only { AddsOnly (λ u. IsPartOf u (tree_of t.now)) (terms_by terms.old) (terms_by terms.new) }
+    ensures only { AddsOnly (λ u. IsPartOf u (tree_of t.now)) (terms_by terms.old)
+        (terms_by terms.new) }
 {
     match t {
         Term::Var(_) => unreachable!(),
@@ -38,10 +39,12 @@ pub(crate) fn intern_args(
 ) -> Result<(), AllocError>
     requires known { AreGround (trees_of args.now) }
     requires keys { AreTermKeys terms.old }
-    ensures ids { OnOk result (AddsIds (terms_by terms.new) key.old.items key.new.items (trees_of args.now)) }
+    ensures ids { OnOk result (AddsIds (terms_by terms.new) key.old.items key.new.items
+        (trees_of args.now)) }
     ensures keys { AreTermKeys terms.new }
     ensures front { IsFrontOf (terms_by terms.old) (terms_by terms.new) }
-    ensures only { AddsOnly (λ u. IsPartAmong u (trees_of args.now)) (terms_by terms.old) (terms_by terms.new) }
+    ensures only { AddsOnly (λ u. IsPartAmong u (trees_of args.now)) (terms_by terms.old)
+        (terms_by terms.new) }
 {
     match args {
         Args::Nil => Ok(()),

@@ -66,7 +66,8 @@ impl Store {
         requires { IsGroundAtom (atom_of a.now) }
         ensures id { IfOk result (λ id. HasId self.old.atoms (atom_of a.now) id self.new.atoms) }
         ensures stays { StaysHeld self.old self.new }
-        ensures only { AddsOnly (λ t. IsPartAmong t (atom_of a.now).args) self.old.terms self.new.terms }
+        ensures only { AddsOnly (λ t. IsPartAmong t (atom_of a.now).args) self.old.terms
+            self.new.terms }
         ensures err { OnErr result (self.new.atoms ≡ self.old.atoms) }
     {
         let mut key = Vec::new(self.alloc);
@@ -110,7 +111,8 @@ impl Store {
     /// The predicate's number of the atom with this id. It takes no memory.
     pub fn pred_of(&self, atom: u64) -> u32
         requires { atom < length self.now.atoms }
-        ensures { (args : Trees) × (slice_get self.now.atoms atom ≡ Some (record { pred = result; args = args })) }
+        ensures { (args : Trees) × (slice_get self.now.atoms atom
+            ≡ Some (record { pred = result; args = args })) }
     {
         head_in(self.atom_key(atom))
     }
@@ -118,7 +120,8 @@ impl Store {
     /// The term ids of the atom's arguments, in order. It takes no memory.
     pub fn args(&self, atom: u64) -> &[u64]
         requires { atom < length self.now.atoms }
-        ensures read { (pred : ℕ) × (slice_get self.now.atoms atom ≡ Some (record { pred = pred; args = args_by self.now.terms result.now })) }
+        ensures read { (pred : ℕ) × (slice_get self.now.atoms atom
+            ≡ Some (record { pred = pred; args = args_by self.now.terms result.now })) }
         ensures within { AllByRecursion (λ id. id < length self.now.terms) result.now }
         ensures ids { AreIds self.now }
     {
@@ -155,7 +158,8 @@ impl Store {
     /// The term ids of the term's arguments, in order. It takes no memory.
     pub fn parts(&self, term: u64) -> &[u64]
         requires { term < length self.now.terms }
-        ensures read { (head : ℕ) × (slice_get self.now.terms term ≡ Some (node head (args_by self.now.terms result.now))) }
+        ensures read { (head : ℕ) × (slice_get self.now.terms term
+            ≡ Some (node head (args_by self.now.terms result.now))) }
         ensures within { AllByRecursion (λ id. id < length self.now.terms) result.now }
     {
         let term_key = self.term_key(term);

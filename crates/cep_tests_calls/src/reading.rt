@@ -29,7 +29,8 @@ pub fn read_term(
     sort: u32,
     bytes: &[u8],
 ) -> Result<Option<Term>, AllocError>
-    ensures { IfOk result (λ read. IfSome read (λ t. IsTermText program.now sort bytes.now (tree_of t))) }
+    ensures { IfOk result (λ read.
+        IfSome read (λ t. IsTermText program.now sort bytes.now (tree_of t))) }
 {
     let vocabulary = Vocabulary::of(alloc, program)?;
     let read = cep_text::read_term(alloc, &vocabulary, sort, bytes);
@@ -39,7 +40,8 @@ pub fn read_term(
 
 // The atom that the bytes are the text of.
 pub fn read_atom(alloc: Global, program: &Program, bytes: &[u8]) -> Result<Option<Atom>, AllocError>
-    ensures { IfOk result (λ read. IfSome read (λ a. IsAtomText program.now bytes.now (atom_of a))) }
+    ensures { IfOk result (λ read.
+        IfSome read (λ a. IsAtomText program.now bytes.now (atom_of a))) }
 {
     let vocabulary = Vocabulary::of(alloc, program)?;
     let read = cep_text::read_atom(alloc, &vocabulary, bytes);

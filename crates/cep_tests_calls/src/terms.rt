@@ -78,7 +78,8 @@ fn only(alloc: Global, t: Term) -> Result<Args, AllocError>
 
 // The pattern `num (s N)`.
 fn num_successor(alloc: Global) -> Result<Atom, AllocError>
-    ensures { IfOk result (λ a. atom_of a ≡ record { pred = 1; args = more (node 1 (more (variable 0) none)) none }) }
+    ensures { IfOk result (λ a. atom_of a
+        ≡ record { pred = 1; args = more (node 1 (more (variable 0) none)) none }) }
 {
     let args = only(alloc, Term::Var(0))?;
     let successor = Term::App(1, Box::new(alloc, args)?);

@@ -30,7 +30,8 @@ pub fn put_proof(program: &Program, d: &Derivation, out: &mut Text) -> Result<()
 fn put_proofs(program: &Program, subs: &Derivations, out: &mut Text) -> Result<(), AllocError>
     requires { AreProofsOf program.now (proofs_of subs.now) }
     ensures ok { OnOk result (out.new ≡ out.old ++ proofs_text program.now (proofs_of subs.now)) }
-    ensures err { OnErr result (IsBegun out.old (proofs_text program.now (proofs_of subs.now)) out.new) }
+    ensures err { OnErr result (IsBegun out.old
+        (proofs_text program.now (proofs_of subs.now)) out.new) }
 {
     match subs {
         Derivations::Nil => Ok(()),
@@ -62,7 +63,8 @@ fn begin_node(
 ) -> Result<(), AllocError>
     requires { IsNodeOf program.now number values.now }
     ensures ok { OnOk result (out.new ≡ out.old ++ begin_text program.now number values.now) }
-    ensures err { OnErr result (IsBegun out.old (begin_text program.now number values.now) out.new) }
+    ensures err { OnErr result (IsBegun out.old
+        (begin_text program.now number values.now) out.new) }
 {
     let parts = program.parts();
     let clause = parts.clauses.get(number as usize);

@@ -32,8 +32,10 @@ pub(crate) fn put_values(
 ) -> Result<(), AllocError>
     requires as_many { length vars.now ≡ length values.now }
     requires declared { AllByRecursion (HasNames signature.now.cons) values.now }
-    ensures ok { OnOk result (out.new ≡ out.old ++ all_given_text signature.now vars.now values.now) }
-    ensures err { OnErr result (IsBegun out.old (all_given_text signature.now vars.now values.now) out.new) }
+    ensures ok { OnOk result (out.new
+        ≡ out.old ++ all_given_text signature.now vars.now values.now) }
+    ensures err { OnErr result (IsBegun out.old
+        (all_given_text signature.now vars.now values.now) out.new) }
 {
     for i in 0..values.len() {
         put_given(signature, vars.get(i), values.get(i), out)?;
@@ -49,8 +51,10 @@ fn put_given(
     out: &mut Text,
 ) -> Result<(), AllocError>
     requires { HasNames signature.now.cons (tree_of value.now) }
-    ensures ok { OnOk result (out.new ≡ out.old ++ given_text signature.now name.now (tree_of value.now)) }
-    ensures err { OnErr result (IsBegun out.old (given_text signature.now name.now (tree_of value.now)) out.new) }
+    ensures ok { OnOk result (out.new
+        ≡ out.old ++ given_text signature.now name.now (tree_of value.now)) }
+    ensures err { OnErr result (IsBegun out.old
+        (given_text signature.now name.now (tree_of value.now)) out.new) }
 {
     out.append(b" ")?;
     out.append(name.bytes())?;

@@ -23,8 +23,10 @@ pub fn read_offer(
     vocabulary: &Vocabulary,
     bytes: &[u8],
 ) -> Result<Option<Offer>, AllocError>
-    ensures some { IfOk result (λ read. IfSome read (λ offer. IsOfferText vocabulary.now bytes.now offer)) }
-    ensures none { IfOk result (λ read. IfNone read ((offer : Offer) → ¬ (IsOfferText vocabulary.now bytes.now offer))) }
+    ensures some { IfOk result (λ read.
+        IfSome read (λ offer. IsOfferText vocabulary.now bytes.now offer)) }
+    ensures none { IfOk result (λ read.
+        IfNone read ((offer : Offer) → ¬ (IsOfferText vocabulary.now bytes.now offer))) }
 {
     match whole_offer(alloc, vocabulary, bytes) {
         Ok(offer) => Ok(Some(offer)),
@@ -36,7 +38,8 @@ pub fn read_offer(
 // All of the bytes as an offer.
 #[tactic(auto, unfolding(crate::specs::Reading::offer_read))]
 fn whole_offer(alloc: Global, vocabulary: &Vocabulary, bytes: &[u8]) -> Result<Offer, Stop>
-    ensures read { Gives (λ offer. offer) result (offer_read vocabulary.now (small_at vocabulary.now.signature.cons) bytes.now) }
+    ensures read { Gives (λ offer. offer) result
+        (offer_read vocabulary.now (small_at vocabulary.now.signature.cons) bytes.now) }
     ensures kept { IsProgram vocabulary.now }
 {
     let (number, rule, rest) = rule(vocabulary, bytes)?;
@@ -56,7 +59,8 @@ fn rule<'p, 'a>(
     vocabulary: &Vocabulary<'p>,
     bytes: &'a [u8],
 ) -> Result<(u32, &'p Rule, &'a [u8]), Stop>
-    ensures read { Gives (λ x. ((x.0, x.1.now), x.2.now)) result (rule_at vocabulary.now.rules bytes.now) }
+    ensures read { Gives (λ x. ((x.0, x.1.now), x.2.now)) result
+        (rule_at vocabulary.now.rules bytes.now) }
     ensures as_many { IfOk result (λ x. length x.1.now.kinds ≡ length x.1.now.vars) }
     ensures kept { IsProgram vocabulary.now }
 {
@@ -77,7 +81,8 @@ pub(crate) fn givens<'a>(
     bytes: &'a [u8],
 ) -> Result<(Terms, &'a [u8]), Stop>
     requires { length kinds.now ≡ length vars.now }
-    ensures read { Gives (λ x. (x.0, x.1.now)) result (givens_at (small_at vocabulary.now.signature.cons) vars.now kinds.now [] bytes.now) }
+    ensures read { Gives (λ x. (x.0, x.1.now)) result
+        (givens_at (small_at vocabulary.now.signature.cons) vars.now kinds.now [] bytes.now) }
     ensures shorter { IfOk result (λ x. length x.1.now ≤ length bytes.now) }
 {
     let mut values = Terms::new(alloc);
@@ -99,7 +104,8 @@ fn given<'a>(
     kind: u32,
     bytes: &'a [u8],
 ) -> Result<(Term, &'a [u8]), Stop>
-    ensures read { Gives (λ x. (tree_of x.0, x.1.now)) result (given_at (small_at vocabulary.now.signature.cons kind) name.now bytes.now) }
+    ensures read { Gives (λ x. (tree_of x.0, x.1.now)) result
+        (given_at (small_at vocabulary.now.signature.cons kind) name.now bytes.now) }
     ensures shorter { IfOk result (λ x. length x.1.now ≤ length bytes.now) }
 {
     let rest = literal(b" ", bytes)?;

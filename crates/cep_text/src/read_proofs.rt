@@ -23,8 +23,10 @@ pub fn read_proof(
     vocabulary: &Vocabulary,
     bytes: &[u8],
 ) -> Result<Option<Derivation>, AllocError>
-    ensures some { IfOk result (λ read. IfSome read (λ d. IsProofText vocabulary.now bytes.now (proof_of d))) }
-    ensures none { IfOk result (λ read. IfNone read ((proof : ProofTree) → ¬ (IsProofText vocabulary.now bytes.now proof))) }
+    ensures some { IfOk result (λ read.
+        IfSome read (λ d. IsProofText vocabulary.now bytes.now (proof_of d))) }
+    ensures none { IfOk result (λ read.
+        IfNone read ((proof : ProofTree) → ¬ (IsProofText vocabulary.now bytes.now proof))) }
 {
     match whole_proof(alloc, vocabulary, bytes) {
         Ok(d) => Ok(Some(d)),
@@ -36,7 +38,8 @@ pub fn read_proof(
 // All of the bytes as a derivation.
 #[tactic(auto, unfolding(crate::specs::Reading::proof_read))]
 fn whole_proof(alloc: Global, vocabulary: &Vocabulary, bytes: &[u8]) -> Result<Derivation, Stop>
-    ensures read { Gives proof_of result (proof_read vocabulary.now (small_at vocabulary.now.signature.cons) MOST_HEIGHT bytes.now) }
+    ensures read { Gives proof_of result
+        (proof_read vocabulary.now (small_at vocabulary.now.signature.cons) MOST_HEIGHT bytes.now) }
     ensures kept { IsProgram vocabulary.now }
 {
     // What each program keeps is known from here on.
@@ -56,7 +59,8 @@ fn proof<'a>(
     height: u32,
     bytes: &'a [u8],
 ) -> Result<(Derivation, &'a [u8]), Stop>
-    ensures read { Gives (λ x. (proof_of x.0, x.1.now)) result (proof_at vocabulary.now (small_at vocabulary.now.signature.cons) height bytes.now) }
+    ensures read { Gives (λ x. (proof_of x.0, x.1.now)) result
+        (proof_at vocabulary.now (small_at vocabulary.now.signature.cons) height bytes.now) }
     ensures shorter { IfOk result (λ x. length x.1.now ≤ length bytes.now) }
 {
     if height == 0 {
@@ -74,7 +78,9 @@ fn node<'a>(
     height: u32,
     bytes: &'a [u8],
 ) -> Result<(Derivation, &'a [u8]), Stop>
-    ensures read { Gives (λ x. (proof_of x.0, x.1.now)) result (node_at vocabulary.now (small_at vocabulary.now.signature.cons) (proof_at vocabulary.now (small_at vocabulary.now.signature.cons) height) bytes.now) }
+    ensures read { Gives (λ x. (proof_of x.0, x.1.now)) result
+        (node_at vocabulary.now (small_at vocabulary.now.signature.cons)
+        (proof_at vocabulary.now (small_at vocabulary.now.signature.cons) height) bytes.now) }
     ensures shorter { IfOk result (λ x. length x.1.now ≤ length bytes.now) }
 {
     let (number, values, goals, rest) = begin(alloc, vocabulary, bytes)?;
@@ -93,7 +99,9 @@ fn proofs<'a>(
     goals: usize,
     bytes: &'a [u8],
 ) -> Result<(Derivations, &'a [u8]), Stop>
-    ensures read { Gives (λ x. (proofs_of x.0, x.1.now)) result (proofs_at (proof_at vocabulary.now (small_at vocabulary.now.signature.cons) height) goals bytes.now) }
+    ensures read { Gives (λ x. (proofs_of x.0, x.1.now)) result
+        (proofs_at (proof_at vocabulary.now (small_at vocabulary.now.signature.cons) height) goals
+        bytes.now) }
     ensures shorter { IfOk result (λ x. length x.1.now ≤ length bytes.now) }
 {
     if goals == 0 {
@@ -112,7 +120,8 @@ fn begin<'a>(
     vocabulary: &Vocabulary,
     bytes: &'a [u8],
 ) -> Result<(u32, Terms, usize, &'a [u8]), Stop>
-    ensures read { Gives (λ x. ((x.0, x.1, x.2), x.3.now)) result (begin_at vocabulary.now (small_at vocabulary.now.signature.cons) bytes.now) }
+    ensures read { Gives (λ x. ((x.0, x.1, x.2), x.3.now)) result
+        (begin_at vocabulary.now (small_at vocabulary.now.signature.cons) bytes.now) }
     ensures shorter { IfOk result (λ x. length x.3.now < length bytes.now) }
 {
     let rest = literal(b"[", bytes)?;
@@ -127,7 +136,8 @@ fn clause<'p, 'a>(
     vocabulary: &Vocabulary<'p>,
     bytes: &'a [u8],
 ) -> Result<(u32, &'p Clause, &'a [u8]), Stop>
-    ensures read { Gives (λ x. ((x.0, clause_of x.1.now), x.2.now)) result (clause_at vocabulary.now.clauses bytes.now) }
+    ensures read { Gives (λ x. ((x.0, clause_of x.1.now), x.2.now)) result
+        (clause_at vocabulary.now.clauses bytes.now) }
     ensures as_many { IfOk result (λ x. length x.1.now.kinds ≡ length x.1.now.vars) }
     ensures shorter { IfOk result (λ x. length x.2.now ≤ length bytes.now) }
 {

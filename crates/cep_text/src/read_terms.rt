@@ -23,8 +23,10 @@ pub fn read_term(
     sort: u32,
     bytes: &[u8],
 ) -> Result<Option<Term>, AllocError>
-    ensures some { IfOk result (λ read. IfSome read (λ t. IsTermText vocabulary.now sort bytes.now (tree_of t))) }
-    ensures none { IfOk result (λ read. IfNone read ((t : Tree) → ¬ (IsTermText vocabulary.now sort bytes.now t))) }
+    ensures some { IfOk result (λ read.
+        IfSome read (λ t. IsTermText vocabulary.now sort bytes.now (tree_of t))) }
+    ensures none { IfOk result (λ read.
+        IfNone read ((t : Tree) → ¬ (IsTermText vocabulary.now sort bytes.now t))) }
 {
     if sort as usize >= vocabulary.parts().signature.sorts.len() {
         return Ok(None);
@@ -56,8 +58,10 @@ pub fn read_atom(
     vocabulary: &Vocabulary,
     bytes: &[u8],
 ) -> Result<Option<Atom>, AllocError>
-    ensures some { IfOk result (λ read. IfSome read (λ a. IsAtomText vocabulary.now bytes.now (atom_of a))) }
-    ensures none { IfOk result (λ read. IfNone read ((a : AtomTree) → ¬ (IsAtomText vocabulary.now bytes.now a))) }
+    ensures some { IfOk result (λ read.
+        IfSome read (λ a. IsAtomText vocabulary.now bytes.now (atom_of a))) }
+    ensures none { IfOk result (λ read.
+        IfNone read ((a : AtomTree) → ¬ (IsAtomText vocabulary.now bytes.now a))) }
 {
     match whole_atom(alloc, vocabulary, bytes) {
         Ok(a) => Ok(Some(a)),
@@ -89,7 +93,8 @@ fn pred<'p, 'a>(
     vocabulary: &Vocabulary<'p>,
     bytes: &'a [u8],
 ) -> Result<(u32, &'p Kinds, &'a [u8]), Stop>
-    ensures read { Gives (λ x. ((x.0, x.1.now), x.2.now)) result (pred_at vocabulary.now.signature.preds bytes.now) }
+    ensures read { Gives (λ x. ((x.0, x.1.now), x.2.now)) result
+        (pred_at vocabulary.now.signature.preds bytes.now) }
     ensures kept { IsProgram vocabulary.now }
 {
     let preds = &vocabulary.parts().signature.preds;

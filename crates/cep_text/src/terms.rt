@@ -12,8 +12,10 @@ use std::alloc::AllocError;
 /// was added.
 pub fn put_term(program: &Program, term: &Term, out: &mut Text) -> Result<(), AllocError>
     requires { IsGroundTerm program.now.signature (tree_of term.now) }
-    ensures ok { OnOk result (out.new ≡ out.old ++ term_text program.now.signature (tree_of term.now)) }
-    ensures err { OnErr result (IsBegun out.old (term_text program.now.signature (tree_of term.now)) out.new) }
+    ensures ok { OnOk result (out.new
+        ≡ out.old ++ term_text program.now.signature (tree_of term.now)) }
+    ensures err { OnErr result (IsBegun out.old
+        (term_text program.now.signature (tree_of term.now)) out.new) }
 {
     put_value(&program.parts().signature, term, out)
 }
@@ -21,8 +23,10 @@ pub fn put_term(program: &Program, term: &Term, out: &mut Text) -> Result<(), Al
 /// Adds the text of a ground atom. After want of memory a front of it was added.
 pub fn put_atom(program: &Program, atom: &Atom, out: &mut Text) -> Result<(), AllocError>
     requires { IsTypedGround program.now.signature (atom_of atom.now) }
-    ensures ok { OnOk result (out.new ≡ out.old ++ atom_text program.now.signature (atom_of atom.now)) }
-    ensures err { OnErr result (IsBegun out.old (atom_text program.now.signature (atom_of atom.now)) out.new) }
+    ensures ok { OnOk result (out.new
+        ≡ out.old ++ atom_text program.now.signature (atom_of atom.now)) }
+    ensures err { OnErr result (IsBegun out.old
+        (atom_text program.now.signature (atom_of atom.now)) out.new) }
 {
     let signature = &program.parts().signature;
     out.append(signature.preds.get(atom.pred as usize).name.bytes())?;
@@ -38,7 +42,8 @@ pub(crate) fn put_value(
 ) -> Result<(), AllocError>
     requires { HasNames signature.now.cons (tree_of term.now) }
     ensures ok { OnOk result (out.new ≡ out.old ++ term_text signature.now (tree_of term.now)) }
-    ensures err { OnErr result (IsBegun out.old (term_text signature.now (tree_of term.now)) out.new) }
+    ensures err { OnErr result (IsBegun out.old
+        (term_text signature.now (tree_of term.now)) out.new) }
 {
     match term {
         Term::Var(_) => Ok(()),
@@ -62,7 +67,8 @@ pub(crate) fn put_value(
 fn put_args(signature: &Signature, args: &Args, out: &mut Text) -> Result<(), AllocError>
     requires { HaveNames signature.now.cons (trees_of args.now) }
     ensures ok { OnOk result (out.new ≡ out.old ++ args_text signature.now (trees_of args.now)) }
-    ensures err { OnErr result (IsBegun out.old (args_text signature.now (trees_of args.now)) out.new) }
+    ensures err { OnErr result (IsBegun out.old
+        (args_text signature.now (trees_of args.now)) out.new) }
 {
     match args {
         Args::Nil => Ok(()),

@@ -17,7 +17,8 @@ fn con<'p, 'a>(
     sort: u32,
     bytes: &'a [u8],
 ) -> Result<(u32, &'p Kinds, &'a [u8]), Stop>
-    ensures read { Gives (λ x. ((x.0, x.1.now), x.2.now)) result (con_at vocabulary.now.signature.cons sort bytes.now) }
+    ensures read { Gives (λ x. ((x.0, x.1.now), x.2.now)) result
+        (con_at vocabulary.now.signature.cons sort bytes.now) }
     ensures shorter { IfOk result (λ x. length x.2.now ≤ length bytes.now) }
 {
     let cons = &vocabulary.parts().signature.cons;
@@ -40,7 +41,8 @@ fn bare<'a>(
     sort: u32,
     bytes: &'a [u8],
 ) -> Result<(Term, &'a [u8]), Stop>
-    ensures read { Gives (λ x. (tree_of x.0, x.1.now)) result (bare_at vocabulary.now.signature.cons sort bytes.now) }
+    ensures read { Gives (λ x. (tree_of x.0, x.1.now)) result
+        (bare_at vocabulary.now.signature.cons sort bytes.now) }
     ensures shorter { IfOk result (λ x. length x.1.now ≤ length bytes.now) }
 {
     let (number, kinds, rest) = con(vocabulary, sort, bytes)?;
@@ -59,7 +61,8 @@ pub(crate) fn value<'a>(
     sort: u32,
     bytes: &'a [u8],
 ) -> Result<(Term, &'a [u8]), Stop>
-    ensures read { Gives (λ x. (tree_of x.0, x.1.now)) result (value_at vocabulary.now.signature.cons depth sort bytes.now) }
+    ensures read { Gives (λ x. (tree_of x.0, x.1.now)) result
+        (value_at vocabulary.now.signature.cons depth sort bytes.now) }
     ensures shorter { IfOk result (λ x. length x.1.now ≤ length bytes.now) }
 {
     if depth == 0 {
@@ -81,7 +84,9 @@ fn enclosed<'a>(
     sort: u32,
     bytes: &'a [u8],
 ) -> Result<(Term, &'a [u8]), Stop>
-    ensures read { Gives (λ x. (tree_of x.0, x.1.now)) result (enclosed_at (value_at vocabulary.now.signature.cons depth) vocabulary.now.signature.cons sort bytes.now) }
+    ensures read { Gives (λ x. (tree_of x.0, x.1.now)) result
+        (enclosed_at (value_at vocabulary.now.signature.cons depth) vocabulary.now.signature.cons
+        sort bytes.now) }
     ensures shorter { IfOk result (λ x. length x.1.now ≤ length bytes.now) }
 {
     let (number, kinds, rest) = con(vocabulary, sort, bytes)?;
@@ -99,7 +104,8 @@ fn inside<'a>(
     kinds: &Kinds,
     bytes: &'a [u8],
 ) -> Result<(Args, &'a [u8]), Stop>
-    ensures read { Gives (λ x. (trees_of x.0, x.1.now)) result (inside_at (value_at vocabulary.now.signature.cons depth) kinds.now bytes.now) }
+    ensures read { Gives (λ x. (trees_of x.0, x.1.now)) result
+        (inside_at (value_at vocabulary.now.signature.cons depth) kinds.now bytes.now) }
     ensures shorter { IfOk result (λ x. length x.1.now ≤ length bytes.now) }
 {
     if kinds.len() == 0 {
@@ -120,7 +126,9 @@ pub(crate) fn arguments<'a>(
     bytes: &'a [u8],
 ) -> Result<(Args, &'a [u8]), Stop>
     requires { from ≤ length kinds.now }
-    ensures read { Gives (λ x. (trees_of x.0, x.1.now)) result (arguments_at (value_at vocabulary.now.signature.cons depth) (drop from kinds.now) bytes.now) }
+    ensures read { Gives (λ x. (trees_of x.0, x.1.now)) result
+        (arguments_at (value_at vocabulary.now.signature.cons depth)
+        (drop from kinds.now) bytes.now) }
     ensures shorter { IfOk result (λ x. length x.1.now ≤ length bytes.now) }
 {
     if from == kinds.len() {
@@ -141,7 +149,8 @@ fn argument<'a>(
     sort: u32,
     bytes: &'a [u8],
 ) -> Result<(Term, &'a [u8]), Stop>
-    ensures read { Gives (λ x. (tree_of x.0, x.1.now)) result (argument_at (value_at vocabulary.now.signature.cons depth sort) bytes.now) }
+    ensures read { Gives (λ x. (tree_of x.0, x.1.now)) result
+        (argument_at (value_at vocabulary.now.signature.cons depth sort) bytes.now) }
     ensures shorter { IfOk result (λ x. length x.1.now < length bytes.now) }
 {
     let rest = literal(b" ", bytes)?;
@@ -156,7 +165,8 @@ pub(crate) fn small_value<'a>(
     sort: u32,
     bytes: &'a [u8],
 ) -> Result<(Term, &'a [u8]), Stop>
-    ensures read { Gives (λ x. (tree_of x.0, x.1.now)) result (small_at vocabulary.now.signature.cons sort bytes.now) }
+    ensures read { Gives (λ x. (tree_of x.0, x.1.now)) result
+        (small_at vocabulary.now.signature.cons sort bytes.now) }
     ensures shorter { IfOk result (λ x. length x.1.now ≤ length bytes.now) }
 {
     let (t, rest) = value(alloc, vocabulary, MOST_DEPTH as u32, sort, bytes)?;
@@ -169,7 +179,8 @@ pub(crate) fn small_value<'a>(
 // How many nodes are left after those of the term, if it has not more.
 #[cycle(left)]
 pub(crate) fn left_after(t: &Term, left: u64) -> Option<u64>
-    ensures { SomeIff result (term_nodes (tree_of t.now) ≤ left) (left - term_nodes (tree_of t.now)) }
+    ensures { SomeIff result (term_nodes (tree_of t.now) ≤ left)
+        (left - term_nodes (tree_of t.now)) }
 {
     match t {
         Term::Var(_) => left.checked_sub(1),
@@ -180,7 +191,8 @@ pub(crate) fn left_after(t: &Term, left: u64) -> Option<u64>
 // How many nodes are left after those of the arguments.
 #[cycle(left)]
 pub(crate) fn left_after_all(args: &Args, left: u64) -> Option<u64>
-    ensures { SomeIff result (argument_nodes (trees_of args.now) ≤ left) (left - argument_nodes (trees_of args.now)) }
+    ensures { SomeIff result (argument_nodes (trees_of args.now) ≤ left)
+        (left - argument_nodes (trees_of args.now)) }
 {
     match args {
         Args::Nil => Some(left),

@@ -50,7 +50,8 @@ impl Tables {
     fn fill(&mut self, parts: &Parts) -> Result<(), AllocError>
         requires empty { self.old ≡ record { cons = []; preds = []; stages = []; rules = [] } }
         requires named { AreNamed parts.now }
-        ensures { OnOk result (HoldNames parts.now self.new.cons self.new.preds self.new.stages self.new.rules) }
+        ensures { OnOk result (HoldNames parts.now self.new.cons self.new.preds self.new.stages
+            self.new.rules) }
     {
         self.cons.fill(&parts.signature.cons)?;
         self.preds.fill(&parts.signature.preds)?;
@@ -124,7 +125,8 @@ impl<'p> Vocabulary<'p> {
     /// The number of the stage of this name, from 0. It takes no memory.
     pub fn stage(&self, name: &[u8]) -> Option<u32>
         ensures some { IfSome result (λ stage. IsStageNamed self.now.stages stage name.now) }
-        ensures none { IfNone result ((stage : ℕ) → ¬ (IsStageNamed self.now.stages stage name.now)) }
+        ensures none { IfNone result ((stage : ℕ)
+            → ¬ (IsStageNamed self.now.stages stage name.now)) }
     {
         // What each program keeps is known from here on.
         self.program.parts();

@@ -7,8 +7,10 @@ use itoa::Buffer;
 
 // The bytes behind a word, if it stands at the front.
 pub(crate) fn strip<'a>(word: &[u8], bytes: &'a [u8]) -> Option<&'a [u8]>
-    ensures read { MatchOption result (literal_at word.now bytes.now ≡ None) (λ rest. literal_at word.now bytes.now ≡ Some rest.now) }
-    ensures len { MatchOption result (Unit {0}) (λ rest. length rest.now + length word.now ≡ length bytes.now) }
+    ensures read { MatchOption result (literal_at word.now bytes.now ≡ None)
+        (λ rest. literal_at word.now bytes.now ≡ Some rest.now) }
+    ensures len { MatchOption result (Unit {0})
+        (λ rest. length rest.now + length word.now ≡ length bytes.now) }
 {
     bytes.strip_prefix(word)
 }

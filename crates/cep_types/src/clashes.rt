@@ -19,7 +19,8 @@ use std::alloc::AllocError;
 
 // The type of the term at a node.
 fn node_type(source: &Source, variables: &Variables, node: &RawNode) -> Option<Span>
-    ensures { option_map (said source.now) result ≡ type_at source.now (type_met source.now variables.now.firsts) node.now.kind node.now.at }
+    ensures { option_map (said source.now) result
+        ≡ type_at source.now (type_met source.now variables.now.firsts) node.now.kind node.now.at }
 {
     match node.kind {
         RawKind::App => Some(source.con(node.at)?.sort),
@@ -30,7 +31,8 @@ fn node_type(source: &Source, variables: &Variables, node: &RawNode) -> Option<S
 
 // A term of another type than is wanted.
 fn clash(source: &Source, variables: &Variables, node: &RawNode, wants: Span) -> Option<Fault>
-    ensures { result ≡ first_in (clash_of source.now (type_met source.now variables.now.firsts) (record { node = node.now; wants = said source.now wants })) }
+    ensures { result ≡ first_in (clash_of source.now (type_met source.now variables.now.firsts)
+        (record { node = node.now; wants = said source.now wants })) }
 {
     let is = node_type(source, variables, node)?;
     if source.said(is) == source.said(wants) {
@@ -48,7 +50,9 @@ fn atom_clash(
     variables: &Variables,
     atom: AtomRef,
 ) -> Result<Option<Fault>, AllocError>
-    ensures { IfOk result (λ first. first ≡ first_in (atom_clashes source.now (type_met source.now variables.now.firsts) (atom_at atom.entry))) }
+    ensures { IfOk result (λ first. first
+        ≡ first_in (atom_clashes source.now (type_met source.now variables.now.firsts)
+        (atom_at atom.entry))) }
 {
     let mut first = FirstFault::none();
     let mut pending = pending(source, atom.name)?;
@@ -65,7 +69,9 @@ fn side_clash(
     variables: &Variables,
     side: &[RawElem],
 ) -> Result<Option<Fault>, AllocError>
-    ensures { IfOk result (λ first. first ≡ first_in (flat_map (atom_clashes source.now (type_met source.now variables.now.firsts)) (atoms_of side.now))) }
+    ensures { IfOk result (λ first. first
+        ≡ first_in (flat_map (atom_clashes source.now (type_met source.now variables.now.firsts))
+        (atoms_of side.now))) }
 {
     let mut first = FirstFault::none();
     for elem in side {
@@ -79,7 +85,8 @@ fn side_clash(
 
 // The first one of a rule.
 fn rule_clash(source: &Source, rule: &RawRule) -> Result<Option<Fault>, AllocError>
-    ensures { IfOk result (λ first. first ≡ first_in (scope_clashes source.now (atoms_of rule.now.left ++ atoms_of rule.now.right))) }
+    ensures { IfOk result (λ first. first
+        ≡ first_in (scope_clashes source.now (atoms_of rule.now.left ++ atoms_of rule.now.right))) }
 {
     let variables = rule_variables(source, rule)?;
     let first = side_clash(source, &variables, rule.left.as_slice())?;
@@ -93,7 +100,9 @@ fn clash_among(
     variables: &Variables,
     atoms: &[RawAtom],
 ) -> Result<Option<Fault>, AllocError>
-    ensures { IfOk result (λ first. first ≡ first_in (flat_map (atom_clashes source.now (type_met source.now variables.now.firsts)) atoms.now)) }
+    ensures { IfOk result (λ first. first
+        ≡ first_in (flat_map (atom_clashes source.now (type_met source.now variables.now.firsts))
+        atoms.now)) }
 {
     let mut first = FirstFault::none();
     for atom in atoms {
@@ -104,7 +113,8 @@ fn clash_among(
 
 // The first one of a clause.
 fn clause_clash(source: &Source, clause: &ClauseRef) -> Result<Option<Fault>, AllocError>
-    ensures { IfOk result (λ first. first ≡ first_in (scope_clashes source.now (clause_scope (clause_item clause.now)))) }
+    ensures { IfOk result (λ first. first
+        ≡ first_in (scope_clashes source.now (clause_scope (clause_item clause.now)))) }
 {
     let variables = clause_variables(source, clause)?;
     let first = atom_clash(source, &variables, clause.head)?;

@@ -34,7 +34,8 @@ fn pred_types<'a>(source: &Source<'a>, name: Span) -> &'a [Span]
 
 // The types that are wanted of the terms of an atom of this predicate.
 pub(crate) fn pending(source: &Source, name: Span) -> Result<Stack<Span>, AllocError>
-    ensures { IfOk result (λ pending. map (said source.now) pending ≡ pred_types source.now (said source.now name)) }
+    ensures { IfOk result (λ pending. map (said source.now) pending
+        ≡ pred_types source.now (said source.now name)) }
 {
     let mut pending = Stack::new(source.alloc());
     pending.push_all(pred_types(source, name))?;
@@ -47,7 +48,10 @@ pub(crate) fn site(
     pending: &mut Stack<Span>,
     node: &RawNode,
 ) -> Result<Span, AllocError>
-    ensures { (nodes : List RawNode) → IfOk result (λ wants. sites_from source.now (map (said source.now) pending.old) (node.now ∷ nodes) ≡ record { node = node.now; wants = said source.now wants } ∷ sites_from source.now (map (said source.now) pending.new) nodes) }
+    ensures { (nodes : List RawNode)
+        → IfOk result (λ wants. sites_from source.now (map (said source.now) pending.old)
+        (node.now ∷ nodes) ≡ record { node = node.now; wants = said source.now wants }
+        ∷ sites_from source.now (map (said source.now) pending.new) nodes) }
 {
     // In a text without wrong names no node is one too many.
     let wants = pending.pop().ok_or(AllocError)?;

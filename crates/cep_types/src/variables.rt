@@ -20,7 +20,8 @@ pub(crate) fn meet_atom(
     variables: &mut Variables,
     atom: AtomRef,
 ) -> Result<(), AllocError>
-    ensures { OnOk result (AreMet source.now (atom_at atom.entry ∷ []) variables.old variables.new) }
+    ensures { OnOk result (AreMet source.now
+        (atom_at atom.entry ∷ []) variables.old variables.new) }
 {
     let mut pending = pending(source, atom.name)?;
     for node in atom.nodes {
@@ -45,7 +46,8 @@ fn meet_side(source: &Source, variables: &mut Variables, side: &[RawElem]) -> Re
 
 /// The variables of a rule.
 pub fn rule_variables(source: &Source, rule: &RawRule) -> Result<Variables, AllocError>
-    ensures { IfOk result (λ variables. AreMet source.now (atoms_of rule.now.left ++ atoms_of rule.now.right) none_met variables) }
+    ensures { IfOk result (λ variables.
+        AreMet source.now (atoms_of rule.now.left ++ atoms_of rule.now.right) none_met variables) }
 {
     let mut variables = Variables::unmet(source.alloc());
     meet_side(source, &mut variables, rule.left.as_slice())?;
@@ -55,7 +57,9 @@ pub fn rule_variables(source: &Source, rule: &RawRule) -> Result<Variables, Allo
 
 /// The variables of a clause.
 pub fn clause_variables(source: &Source, clause: &ClauseRef) -> Result<Variables, AllocError>
-    ensures { IfOk result (λ variables. AreMet source.now ((clause_item clause.now).head ∷ (clause_item clause.now).goals) none_met variables) }
+    ensures { IfOk result (λ variables.
+        AreMet source.now ((clause_item clause.now).head
+        ∷ (clause_item clause.now).goals) none_met variables) }
 {
     let mut variables = Variables::unmet(source.alloc());
     meet_atom(source, &mut variables, clause.head)?;
@@ -67,7 +71,8 @@ pub fn clause_variables(source: &Source, clause: &ClauseRef) -> Result<Variables
 
 // The number of a variable, from 0.
 fn variable_number(variables: &Variables, name: &[u8]) -> Result<u32, AllocError>
-    ensures { IfOk result (λ number. number ≡ variable_of (names_among variables.now.firsts) name.now) }
+    ensures { IfOk result (λ number. number
+        ≡ variable_of (names_among variables.now.firsts) name.now) }
 {
     number_at(variables.firsts.number(name).unwrap_or(0))
 }
@@ -80,7 +85,9 @@ pub fn head(
     blanks: u64,
     node: &RawNode,
 ) -> Result<u32, AllocError>
-    ensures { IfOk result (λ number. head_by node.now.kind number node.now.args ≡ head_at source.now (names_among variables.now.firsts) blanks node.now.kind node.now.at node.now.args) }
+    ensures { IfOk result (λ number. head_by node.now.kind number node.now.args
+        ≡ head_at source.now (names_among variables.now.firsts) blanks node.now.kind node.now.at
+        node.now.args) }
 {
     match variable_at(source, blanks, node)? {
         Some(name) => variable_number(variables, name.bytes()),

@@ -4,5 +4,6 @@ ghost use Rattle.cep_words.specs.Words.{Request, AskFor};
 
 /// Words ask for one thing at most.
 pub fn one_request()
-    ensures { (words : List (List ℕ)) (one other : Request) → AskFor words one → AskFor words other → one ≡ other }
+    ensures { (words : List (List ℕ)) (one other : Request) → AskFor words one → AskFor words other
+        → one ≡ other }
 {}

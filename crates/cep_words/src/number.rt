@@ -4,7 +4,8 @@ ghost use Rattle.cep_words.specs.Numerals.{begins_as_decimal};
 
 // The number that is spelled in decimal without leading zeros, if one below 2^64 is.
 pub(crate) fn number_of(digits: &[u8]) -> Option<u64>
-    ensures { MatchOption result ((value : ℕ) → value < 2 ^ 64 → digits.now ≡ decimal value → ⊥) (λ value. digits.now ≡ decimal value) }
+    ensures { MatchOption result ((value : ℕ) → value < 2 ^ 64 → digits.now ≡ decimal value
+        → ⊥) (λ value. digits.now ≡ decimal value) }
 {
     if !begins_as_decimal(digits) {
         return None;

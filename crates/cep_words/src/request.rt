@@ -80,7 +80,8 @@ impl Request<'_> {
 // The request to play a program, by one player or by several in rounds, if these words ask for that.
 fn to_play(words: &[String]) -> Option<Request<'_>>
     ensures { MatchOption result
-        ((file : List ℕ) (options : Options) → ¬ (AskFor (map string_bytes words.now) (Play file options)))
+        ((file : List ℕ) (options : Options)
+        → ¬ (AskFor (map string_bytes words.now) (Play file options)))
         (λ request. AskFor (map string_bytes words.now) (request_of request)) }
 {
     match words {
@@ -109,7 +110,8 @@ fn play_word(players: Option<u32>) -> &'static str
 // The request to examine a second file, if these words ask for that with no option.
 fn to_examine(words: &[String]) -> Option<Request<'_>>
     ensures { MatchOption result
-        ((task : Task) (file second : List ℕ) → map string_bytes words.now ≢ task_word task ∷ file ∷ second ∷ [])
+        ((task : Task) (file second : List ℕ)
+        → map string_bytes words.now ≢ task_word task ∷ file ∷ second ∷ [])
         (λ request. AskFor (map string_bytes words.now) (request_of request)) }
 {
     match words {
@@ -124,7 +126,8 @@ fn to_examine(words: &[String]) -> Option<Request<'_>>
 // The request to do the steps of a transcript again by a seed, if these words ask for that.
 fn to_do_again(words: &[String]) -> Option<Request<'_>>
     ensures { MatchOption result
-        ((seed : ℕ) (file second : List ℕ) → ¬ (AskFor (map string_bytes words.now) (Examine (Again (Some seed)) file second)))
+        ((seed : ℕ) (file second : List ℕ)
+        → ¬ (AskFor (map string_bytes words.now) (Examine (Again (Some seed)) file second)))
         (λ request. AskFor (map string_bytes words.now) (request_of request)) }
 {
     match words {
@@ -168,7 +171,8 @@ fn task_of(word: &[u8]) -> Option<Task>
 // The request to run a world, if these words ask for that.
 fn to_run(words: &[String]) -> Option<Request<'_>>
     ensures { MatchOption result
-        ((rooms : ℕ) (options : Options) → ¬ (AskFor (map string_bytes words.now) (World rooms options)))
+        ((rooms : ℕ) (options : Options)
+        → ¬ (AskFor (map string_bytes words.now) (World rooms options)))
         (λ request. AskFor (map string_bytes words.now) (request_of request)) }
 {
     match words {

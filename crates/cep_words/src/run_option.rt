@@ -55,7 +55,8 @@ pub(crate) fn seed_in(word: &[u8]) -> Option<u64>
 
 fn height_in(word: &[u8]) -> Option<u32>
     ensures { MatchOption result
-        ((levels : ℕ) → IsUpTo MOST_HEIGHT levels → word.now ≡ codes "height=" ++ decimal levels → ⊥)
+        ((levels : ℕ) → IsUpTo MOST_HEIGHT levels → word.now ≡ codes "height=" ++ decimal levels
+        → ⊥)
         (λ levels. IsUpTo MOST_HEIGHT levels × (word.now ≡ codes "height=" ++ decimal levels)) }
 {
     number_within(word.strip_prefix(b"height=")?, 1, MOST_HEIGHT)
@@ -71,7 +72,8 @@ fn turns_in(word: &[u8]) -> Option<u32>
 
 fn players_in(word: &[u8]) -> Option<u32>
     ensures { MatchOption result
-        ((count : ℕ) → IsInBounds (Players count) → word.now ≡ codes "players=" ++ decimal count → ⊥)
+        ((count : ℕ) → IsInBounds (Players count) → word.now ≡ codes "players=" ++ decimal count
+        → ⊥)
         (λ count. IsInBounds (Players count) × (word.now ≡ codes "players=" ++ decimal count)) }
 {
     number_within(word.strip_prefix(b"players=")?, 2, MOST_PLAYERS as u32)

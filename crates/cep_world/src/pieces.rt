@@ -11,7 +11,8 @@ use std::alloc::AllocError;
 // The line of one name, as `r0 : room.`.
 #[tactic(auto, using(std::proofs::Common::append_assoc))]
 fn put_name(out: &mut Text, letter: &[u8], sort: &[u8], i: u32) -> Result<(), AllocError>
-    ensures { OnOk result (out.new ≡ out.old ++ (letter.now ++ decimal i ++ codes " : " ++ sort.now ++ codes ".\n")) }
+    ensures { OnOk result (out.new
+        ≡ out.old ++ (letter.now ++ decimal i ++ codes " : " ++ sort.now ++ codes ".\n")) }
 {
     out.append(letter)?;
     out.number(u64::from(i))?;
@@ -64,7 +65,8 @@ fn put_room(out: &mut Text, n: u32, i: u32) -> Result<(), AllocError>
 // The links of all rooms.
 pub fn put_rooms(out: &mut Text, n: u32) -> Result<(), AllocError>
     requires { n ≤ MOST_WORLD }
-    ensures { OnOk result (out.new ≡ out.old ++ with_commas (flat_map (room_atoms n) (numbers_below n))) }
+    ensures { OnOk result (out.new
+        ≡ out.old ++ with_commas (flat_map (room_atoms n) (numbers_below n))) }
 {
     for i in 0..n {
         put_room(out, n, i)?;
@@ -99,7 +101,8 @@ fn put_walker(out: &mut Text, n: u32, i: u32) -> Result<(), AllocError>
 pub fn put_walkers(out: &mut Text, n: u32, count: u32) -> Result<(), AllocError>
     requires some { 1 ≤ n }
     requires few { count ≤ MOST_WORLD }
-    ensures { OnOk result (out.new ≡ out.old ++ with_commas (flat_map (walker_atoms n) (numbers_below count))) }
+    ensures { OnOk result (out.new
+        ≡ out.old ++ with_commas (flat_map (walker_atoms n) (numbers_below count))) }
 {
     for i in 0..count {
         put_walker(out, n, i)?;
@@ -111,7 +114,8 @@ pub fn put_walkers(out: &mut Text, n: u32, count: u32) -> Result<(), AllocError>
 pub fn put_goods(out: &mut Text, n: u32, count: u32) -> Result<(), AllocError>
     requires some { 1 ≤ n }
     requires few { count ≤ MOST_WORLD }
-    ensures { OnOk result (out.new ≡ out.old ++ with_commas (map (good_atom n) (numbers_below count))) }
+    ensures { OnOk result (out.new
+        ≡ out.old ++ with_commas (map (good_atom n) (numbers_below count))) }
 {
     for i in 0..count {
         put_atom_before_others(out, b"lies g", i, 5 * i % n)?;

@@ -10,7 +10,10 @@ use std::alloc::{AllocError, Global};
 // The lines of the names.
 #[tactic(auto, using(std::proofs::Common::append_assoc))]
 fn put_all_names(out: &mut Text, n: u32) -> Result<(), AllocError>
-    ensures { OnOk result (out.new ≡ out.old ++ (numbered_names (codes "r") (codes "room") n ++ numbered_names (codes "w") (codes "walker") (walker_count n) ++ numbered_names (codes "g") (codes "good") n)) }
+    ensures { OnOk result (out.new
+        ≡ out.old ++ (numbered_names (codes "r") (codes "room") n
+        ++ numbered_names (codes "w") (codes "walker") (walker_count n)
+        ++ numbered_names (codes "g") (codes "good") n)) }
 {
     put_names(out, b"r", b"room", n)?;
     put_names(out, b"w", b"walker", 1 + n / 100)?;
@@ -45,7 +48,8 @@ context start = {
 fn put_start(out: &mut Text, n: u32) -> Result<(), AllocError>
     requires some { 1 ≤ n }
     requires few { n ≤ MOST_WORLD }
-    ensures { OnOk result (out.new ≡ out.old ++ join_by (λ atom. atom) (codes ",\n") (world_atoms n)) }
+    ensures { OnOk result (out.new
+        ≡ out.old ++ join_by (λ atom. atom) (codes ",\n") (world_atoms n)) }
 {
     put_rooms(out, n)?;
     put_walkers(out, n, 1 + n / 100)?;
