@@ -59,18 +59,20 @@ fn rule(source: &Source, name: &[u8], item: &RuleRef) -> Result<Rule, AllocError
     ensures name { IfOk result (λ rule. rule.name ≡ name.now) }
 {
     let raw = item.raw;
+    let group = group(source, item.home, raw.left.as_slice())?;
+    let next = next(source, item.home, raw.right.as_slice())?;
     let variables = rule_variables(source, raw)?;
     let mut blanks = 0;
     let left = read_left(source, &variables, raw.left.as_slice(), &mut blanks)?;
     Ok(Rule {
+        group,
+        next,
         name: Name::new(source.alloc(), name)?,
-        group: group(source, item.home, raw.left.as_slice())?,
-        next: next(source, item.home, raw.right.as_slice())?,
         vars: variables.firsts.names(source.alloc())?,
         kinds: variable_kinds(source, &variables)?,
+        right: read_side(source, &variables, raw.right.as_slice(), blanks)?,
         premises: left.premises,
         backs: left.backs,
-        right: read_side(source, &variables, raw.right.as_slice(), blanks)?,
     })
 }
 

@@ -15,7 +15,7 @@ returns-clause-rule c =
     let item = c.args.item.now in
     let variables = c.in_ok-variables.variables in
     rule_built source (rule_item item) variables _ c.read_left.new.blanks c.in_ok-left.left
-    c.in_ok-variables.ensures c.in_ok-names.ensures c.in_ok-variable_kinds.ensures (c.in_ok-group.ensures ∙ ap (group_of source item.home) c.as_slice-2.ensures) (c.in_ok-next.ensures ∙ ap (next_of source item.home) c.as_slice-3.ensures)
-    (subst (λ (side : List RawElem). IsLeftBuilt source (names_among variables.firsts) side 0 c.read_left.new.blanks (record { premises = []; backs = [] }) c.in_ok-left.left) c.as_slice.ensures c.in_ok-left.ensures)
+    c.in_ok-variables.ensures c.in_ok-names.ensures c.in_ok-variable_kinds.ensures (c.in_ok-group.ensures ∙ ap (group_of source item.home) c.as_slice.ensures) (c.in_ok-next.ensures ∙ ap (next_of source item.home) c.as_slice-2.ensures)
+    (subst (λ (side : List RawElem). IsLeftBuilt source (names_among variables.firsts) side 0 c.read_left.new.blanks (record { premises = []; backs = [] }) c.in_ok-left.left) c.as_slice-3.ensures c.in_ok-left.ensures)
     refl refl
     (subst (λ (side : List RawElem). AreAtomsBy source (names_among variables.firsts) c.read_left.new.blanks (atoms_of side) c.in_ok-read_side.field-0) c.as_slice-4.ensures c.in_ok-read_side.ensures)
