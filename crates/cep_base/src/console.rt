@@ -15,7 +15,7 @@ pub enum Event {
 }
 
 /// Why a call of a console was refused: memory ran out, or the console itself failed.
-#[derive(Clone, Copy, PartialEq, Eq)]
+#[derive(Clone, Copy, Debug, PartialEq, Eq)]
 pub enum ConsoleFault {
     Memory(AllocError),
     Failed,

@@ -7,7 +7,7 @@ use std::alloc::{AllocError, AllocFailed, Global};
 
 /// Why a file was not loaded: memory ran out, the file could not be read, or it has more bytes than
 /// were asked for.
-#[derive(Clone, Copy, PartialEq, Eq)]
+#[derive(Clone, Copy, Debug, PartialEq, Eq)]
 pub enum ShelfFault {
     Memory(AllocError),
     Failed,

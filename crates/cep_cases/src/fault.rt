@@ -3,7 +3,7 @@ use std::alloc::{AllocError, AllocFailed};
 use std::io;
 
 /// Why cases were not run to their end. The case after the last one of which something was written is the one.
-#[derive(Clone, Copy)]
+#[derive(Clone, Copy, Debug)]
 pub enum Fault {
     Memory,
     /// A file was not read, or what came of the cases was not written.

@@ -76,7 +76,7 @@ fn expect_passed(
 ) -> Result<(), Fail> {
     let term = term(alloc, levels, doublings)?;
     let text = text(alloc, rule, term.as_str(), copies)?;
-    assert_eq!(rt; passed(alloc, text.as_str())?, limit, "{rule}");
+    assert!(rt; passed(alloc, text.as_str())? == limit, "{rule}");
     Ok(())
 }
 

@@ -1,4 +1,5 @@
 use Rattle.std.proofs.Common.{◌≡◌, true, map, ap, sym, subst, ◌∙◌, arith}
+use Rattle.std.proofs.lemmas.Grind.{common_steps}
 use Rattle.std.specs.List.{AllByRecursion}
 use Rattle.cep_base.proofs.Lists.{all_weaker}
 use Rattle.cep_rule.specs.Typing.{IsTyped}
@@ -42,3 +43,12 @@ returns c =
     let there : c.has_stage.result ≡ true = grind (arith, c.if-not-has_stage.false) in
     rule_passes c.args.program.now (λ item. is_held c.args.table.now item ≡ true) c.args.rule.now c.as_slice-kinds.result.now c.as_slice-kinds.ensures (map tree_at c.deref.result.now) (map tree_at c.deref-3.result.now)
     (ap (map tree_at) c.deref.ensures.value ∙ c.in_ok-premises.ensures) (ap (map tree_at) c.deref-3.ensures.value ∙ c.in_ok-premises.ensures) (sym c.has_stage.ensures ∙ there) c.in_default.ensures c.in-None.ensures
+
+pub first_shut-requires : goal.first_shut-requires
+first_shut-requires c = grind (arith, common_steps)
+
+pub sets_of-requires-clause-few_variables : goal.sets_of-requires-clause-few_variables
+sets_of-requires-clause-few_variables c = grind (arith, common_steps)
+
+pub first_empty-requires-clause-premises : goal.first_empty-requires-clause-premises
+first_empty-requires-clause-premises c = grind (arith, common_steps)

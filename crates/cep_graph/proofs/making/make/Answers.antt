@@ -1,4 +1,5 @@
-use Rattle.std.proofs.Common.{◌≡◌, ◌⊎◌, inl, inr, ℕ, ◌+◌, Bool, true, false, ◌&&◌, List, [], ◌∷◌, length, drop, refl, sym, ap, ◌∙◌, subst}
+use Rattle.std.proofs.Common.{◌≡◌, ◌⊎◌, inl, inr, ℕ, ◌+◌, Bool, true, false, ◌&&◌, List, [], ◌∷◌, length, drop, refl, sym, ap, ◌∙◌, subst, arith}
+use Rattle.std.proofs.lemmas.Grind.{common_steps}
 use Rattle.std.specs.Prelude.{nat_lt}
 use Rattle.cep_term.specs.Tree.{AtomTree, atom_of}
 use Rattle.cep_rule.specs.Typing.{is_fact}
@@ -43,3 +44,6 @@ loop-i-preserved c =
           (let e : w.has.result ≡ true = cc in sym (w.has.ensures (full_instance c.args.values.now (atom_of c.get-atom.result.now)) c.in_ok-id.ensures.met) ∙ e))
           (subst (λ (q : Queues). MakesFor c.args.signature.now c.args.values.now (drop (c.loop-i.i + 1) c.args.right.now) c.args.number q new) w.tokens-is rest)))
     ]
+
+pub returns : goal.returns
+returns c = grind (arith, common_steps)

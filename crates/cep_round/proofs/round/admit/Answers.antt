@@ -1,4 +1,5 @@
-use Rattle.std.proofs.Common.{Bool, ap, sym, subst, ◌∙◌, take, ◌++◌, ◌∷◌, []}
+use Rattle.std.proofs.Common.{Bool, ap, sym, subst, ◌∙◌, take, ◌++◌, ◌∷◌, [], arith}
+use Rattle.std.proofs.lemmas.Grind.{common_steps}
 use Rattle.std.specs.FinMap as finite
 use Rattle.cep_term.specs.Multiset.{Multiset, IsOnce, IsContained}
 use Rattle.cep_rule.specs.Typing.{is_fact}
@@ -44,3 +45,6 @@ loop-i-preserved c =
           (c.flags_grow.ensures.blocked program state finite.empty before flags offer c.loop-i.invariant.0 outside)
           )
     ]
+
+pub returns : goal.returns
+returns c = grind (arith, common_steps)

@@ -1,3 +1,5 @@
+use Rattle.cep_text.specs.Reading.{node_at}
+use Rattle.std.proofs.lemmas.Grind.{common_steps}
 use Rattle.std.proofs.Common.{◌≡◌, ◌-◌, suc, refl, arith}
 use Rattle.std.proofs.lemmas.Result.{err_from_is_err_and}
 use Rattle.cep_text.specs.Reading.{proof_at, small_at}
@@ -40,3 +42,19 @@ pub proofs-returns-clause-read : goal.proofs-returns-clause-read
 proofs-returns-clause-read t c =
     let more : c.args.goals ≡ suc (c.args.goals - 1) = omega arith in
     rw (proofs_more (proof_at c.args.vocabulary.now (small_at c.args.vocabulary.now.signature.cons) c.args.height) c.args.goals (c.args.goals - 1) c.args.bytes.now more, c.in_ok-rest.ensures.read, c.in_ok-first.ensures.read, c.in_ok-others.ensures.read, c.in_ok-new.ensures.ok) refl
+
+pub node-returns-clause-read : goal.node-returns-clause-read
+unfolding node_at
+node-returns-clause-read t c = grind (arith, common_steps)
+
+pub node-returns-in_err-number-clause-read : goal.node-returns-in_err-number-clause-read
+unfolding node_at
+node-returns-in_err-number-clause-read t c = grind (arith, common_steps)
+
+pub node-returns-in_err-rest-clause-read : goal.node-returns-in_err-rest-clause-read
+unfolding node_at
+node-returns-in_err-rest-clause-read t c = grind (arith, common_steps)
+
+pub node-returns-in_err-subs-clause-read : goal.node-returns-in_err-subs-clause-read
+unfolding node_at
+node-returns-in_err-subs-clause-read t c = grind (arith, common_steps)

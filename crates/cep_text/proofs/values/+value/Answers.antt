@@ -1,3 +1,5 @@
+use Rattle.cep_text.specs.Reading.{argument_at, enclosed_at, inside_at}
+use Rattle.std.proofs.lemmas.Grind.{common_steps}
 use Rattle.std.proofs.Common.{◌≡◌, ◌-◌, suc, refl, arith}
 use Rattle.std.proofs.lemmas.Result.{err_from_is_err_and}
 use Rattle.cep_text.specs.Reading.{value_at}
@@ -35,3 +37,39 @@ arguments-returns-in_err-others-clause-read t c =
 pub arguments-returns-clause-read : goal.arguments-returns-clause-read
 arguments-returns-clause-read t c =
     rw (arguments_next (value_at c.args.vocabulary.now.signature.cons c.args.depth) c.args.kinds.now c.args.from c.get.result.now c.args.bytes.now c.get.ensures, c.in_ok-first.ensures.read, c.in_ok-others.ensures.read, c.in_ok-new.ensures.ok) refl
+
+pub argument-returns-clause-read : goal.argument-returns-clause-read
+unfolding argument_at
+argument-returns-clause-read t c = grind (arith, common_steps)
+
+pub argument-returns-in_err-rest-clause-read : goal.argument-returns-in_err-rest-clause-read
+unfolding argument_at
+argument-returns-in_err-rest-clause-read t c = grind (arith, common_steps)
+
+pub enclosed-returns-clause-read : goal.enclosed-returns-clause-read
+unfolding enclosed_at
+enclosed-returns-clause-read t c = grind (arith, common_steps)
+
+pub enclosed-returns-in_err-args-clause-read : goal.enclosed-returns-in_err-args-clause-read
+unfolding enclosed_at
+enclosed-returns-in_err-args-clause-read t c = grind (arith, common_steps)
+
+pub enclosed-returns-in_err-number-clause-read : goal.enclosed-returns-in_err-number-clause-read
+unfolding enclosed_at
+enclosed-returns-in_err-number-clause-read t c = grind (arith, common_steps)
+
+pub inside-returns-clause-read : goal.inside-returns-clause-read
+unfolding inside_at
+inside-returns-clause-read t c = grind (arith, common_steps)
+
+pub inside-returns-in_err-args-clause-read : goal.inside-returns-in_err-args-clause-read
+unfolding inside_at
+inside-returns-in_err-args-clause-read t c = grind (arith, common_steps)
+
+pub inside-returns-in_err-literal-clause-read : goal.inside-returns-in_err-literal-clause-read
+unfolding inside_at
+inside-returns-in_err-literal-clause-read t c = grind (arith, common_steps)
+
+pub inside-returns-then-len-eq0-clause-read : goal.inside-returns-then-len-eq0-clause-read
+unfolding inside_at
+inside-returns-then-len-eq0-clause-read t c = grind (arith, common_steps)

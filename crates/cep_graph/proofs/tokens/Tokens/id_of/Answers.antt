@@ -1,4 +1,5 @@
 use Rattle.std.proofs.Common.{◌≡◌, ◌<◌, List, [], ◌∷◌, ◌++◌, length, map, ap, ◌∙◌, sym, subst, arith}
+use Rattle.std.proofs.lemmas.Grind.{common_steps}
 use Rattle.std.proofs.lemmas.List.{length-map}
 use Rattle.cep_term.specs.Tree.{atom_of}
 use Rattle.cep_graph.specs.Queues.{Queues, GetsId}
@@ -14,3 +15,12 @@ returns-in_ok-push c =
     let more : length c.self.inside.store.atoms < length c.intern.new.self.atoms = omega (arith, c.self.invariant.long, length-map c.self.inside.queues.items (λ d. d.items), c.self.inside.queues.ok.0, c.reserve.ensures.len, c.atoms.ensures.value, c.len.ensures, c.if-atoms-len.true) in
     subst (λ deques. GetsId c.args.self.now (atom_of c.args.atom.now) c.in_ok-id.id (record { atoms = c.intern.new.self.atoms; rows = map (λ d. d.items) deques })) (sym items)
     (meets_new c.bags_are_lawful.ensures (λ d. d.items) c.self.inside.store.atoms c.intern.new.self.atoms c.self.inside.queues.items c.in_ok-id.id (atom_of c.args.atom.now) c.args.self.now c.new.result c.self.view_is c.self.invariant c.in_ok-id.ensures.id more c.new.ensures.items)
+
+pub invariant_of-self-in_ok-push : goal.invariant_of-self-in_ok-push
+invariant_of-self-in_ok-push c = grind (arith, common_steps)
+
+pub invariant_of-self-else-atoms-len : goal.invariant_of-self-else-atoms-len
+invariant_of-self-else-atoms-len c = grind (arith, common_steps)
+
+pub returns-else-atoms-len : goal.returns-else-atoms-len
+returns-else-atoms-len c = grind (arith, common_steps)
