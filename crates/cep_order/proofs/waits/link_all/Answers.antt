@@ -1,4 +1,5 @@
 use Rattle.std.proofs.Common.{ℕ, ◌+◌, ◌-◌, ◌<◌, ◌≤◌, List, [], ◌∷◌, ◌++◌, length, take, get_or, set, sym, subst, refl, arith}
+use Rattle.std.proofs.lemmas.Grind.{common_steps}
 use Rattle.std.proofs.lemmas.List.{take_more}
 use Rattle.std.proofs.lemmas.List.Elements.{Contains-get_or}
 use Rattle.cep_base.proofs.Elements.{all_at}
@@ -35,3 +36,15 @@ loop-number-preserved c =
           (subst (λ (some : List ℕ). AreLinksFor (entries ++ some ∷ []) (set at.begins (number - 1) c.in-Ok.link) (at.links.items ++ link ∷ [])) (sym (take_more numbers at.number-index 0 c.loop-number-test.true))
           (linked entries (take at.number-index numbers) at.begins at.links.items c.args.step number c.in-Ok.link link (at.invariant.links entries same are) same here.0 (omega (arith, here.1, at.auto.begins)) refl refl (omega (arith, fits, c.len.ensures, long, size))));
     }
+
+pub overflow_sub-earlier : goal.overflow_sub-earlier
+overflow_sub-earlier c = grind (arith, common_steps)
+
+pub bounds-begins-earlier : goal.bounds-begins-earlier
+bounds-begins-earlier c = grind (arith, common_steps)
+
+pub bounds-begins-earlier-in-loop-number : goal.bounds-begins-earlier-in-loop-number
+bounds-begins-earlier-in-loop-number c = grind (arith, common_steps)
+
+pub returns-clause-links : goal.returns-clause-links
+returns-clause-links c = grind (arith, common_steps)
