@@ -41,6 +41,22 @@ impl Series {
         self.last == Some((self.whole.status, "all"))
     }
 
+    /// Adds what came of two runs with this number, which are to come to the same.
+    pub fn add_both(
+        &mut self,
+        number: u64,
+        one: &Outcome,
+        other: &Outcome,
+    ) -> Result<(), AllocError> {
+        self.add(number, one)?;
+        if one.status == other.status && one.said == other.said {
+            return Ok(());
+        }
+        let alloc = *self.told.allocator();
+        let told = format!(in alloc; "    at {number} two outcomes\n")?;
+        self.told.push_str(told.as_str())
+    }
+
     /// Adds what came of the run with this number.
     pub fn add(&mut self, number: u64, outcome: &Outcome) -> Result<(), AllocError> {
         let part = part_of(&outcome.said, &self.whole.said);
