@@ -15,9 +15,9 @@ use Rattle.cep_rule.specs.Matching.{state_after}
 use Rattle.cep_rule.specs.Stages.{own_group, leaving_group, HasOffer}
 use Rattle.cep_rule.specs.State.{Fits}
 use Rattle.cep_rule.specs.Step.{Step}
-use Rattle.cep_rule.specs.Steps.{Spot, IsMachineStep}
+use Rattle.cep_rule.specs.Steps.{Spot, IsMachineStep, start_spot}
 use Rattle.cep_log.specs.declared.log.LogStep.{LogStep}
-use Rattle.cep_log.specs.Legal.{IsLegalStep, start_spot}
+use Rattle.cep_log.specs.Legal.{IsLegalStep}
 use Rattle.cep_log.specs.Written.{DoTheSame}
 use Rattle.cep_cause.specs.Tokens.{start_tokens}
 use Rattle.cep_cause.specs.Touches.{Touch}

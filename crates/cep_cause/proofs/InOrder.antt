@@ -6,10 +6,11 @@ use Rattle.std.specs.List.{AllByRecursion, AllZip}
 use Rattle.cep_base.proofs.Lists.{some_same, all_mapped, all_from_places, holds_at, get_mapped}
 use Rattle.cep_base.proofs.Elements.{contains_none, contains_cases, contains_same, contains_behind, contains_at, all_of}
 use Rattle.cep_rule.specs.declared.parts.Parts.{Parts}
+use Rattle.cep_rule.specs.Steps.{start_spot}
 use Rattle.cep_lines.specs.declared.version.Version.TheVariants.{One}
 use Rattle.cep_log.specs.declared.log.Log.{Log}
 use Rattle.cep_log.specs.declared.log.LogStep.{LogStep}
-use Rattle.cep_log.specs.Legal.{IsStepOf, HaveListings, AreLegalSteps, start_spot, IsLegal}
+use Rattle.cep_log.specs.Legal.{IsStepOf, HaveListings, AreLegalSteps, IsLegal}
 use Rattle.cep_log.specs.Written.{DoTheSame, EndTheSame, IsRenewal}
 use Rattle.cep_cause.specs.Touches.{Touch, AreTouchesOf}
 use Rattle.cep_cause.specs.Tokens.{start_tokens}

@@ -4,11 +4,11 @@ use Rattle.cep_base.specs.declared.limits.TheConstants.{MOST_COPIES, MOST_STATE_
 use Rattle.cep_term.specs.Multiset.{Multiset, copies_in, nodes_in_all}
 use Rattle.cep_rule.specs.declared.parts.Parts.{Parts}
 use Rattle.cep_rule.specs.State.{Fits}
-use Rattle.cep_rule.specs.Steps.{Spot}
+use Rattle.cep_rule.specs.Steps.{Spot, start_spot}
 use Rattle.cep_rule.specs.Program.{IsProgram}
 use Rattle.cep_log.specs.declared.log.Log.{Log}
 use Rattle.cep_log.specs.declared.log.LogStep.{LogStep}
-use Rattle.cep_log.specs.Legal.{IsLegalStep, AreLegalSteps, start_spot, IsLegal}
+use Rattle.cep_log.specs.Legal.{IsLegalStep, AreLegalSteps, IsLegal}
 use Rattle.cep_cause.specs.CauseLaws.{CauseLaws}
 use Rattle.cep_cause.specs.Touches.{Touch, AreTouchesOf}
 use Rattle.cep_cause.specs.Reorderings.{IsReordering}

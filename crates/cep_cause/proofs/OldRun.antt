@@ -10,10 +10,10 @@ use Rattle.cep_rule.specs.declared.parts.Parts.{Parts}
 use Rattle.cep_rule.specs.Typing.{is_fact}
 use Rattle.cep_rule.specs.Binding.{needed_of}
 use Rattle.cep_rule.specs.Instances.{full_instances, used_by}
-use Rattle.cep_rule.specs.Steps.{Spot}
+use Rattle.cep_rule.specs.Steps.{Spot, start_spot}
 use Rattle.cep_rule.specs.Program.{IsTypedRule, IsDividedRule, IsGroupedRule, IsProgram}
 use Rattle.cep_log.specs.declared.log.LogStep.{LogStep}
-use Rattle.cep_log.specs.Legal.{IsLegalStep, AreLegalSteps, start_spot}
+use Rattle.cep_log.specs.Legal.{IsLegalStep, AreLegalSteps}
 use Rattle.cep_cause.specs.CauseLaws.{CauseLaws}
 use Rattle.cep_cause.specs.Tokens.{Token, token_atoms, token_state, listed_copies, start_tokens, staying}
 use Rattle.cep_cause.specs.Touches.{Touch, present_after, IsTouch, AreTouches}

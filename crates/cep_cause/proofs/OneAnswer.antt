@@ -4,10 +4,10 @@ use Rattle.std.specs.List.{AllZip}
 use Rattle.cep_rule.specs.declared.parts.Parts.{Parts}
 use Rattle.cep_rule.specs.declared.offer.Offer.{Offer}
 use Rattle.cep_rule.specs.Derivations.{ProofTree}
-use Rattle.cep_rule.specs.Steps.{Spot, IsMachineStep}
+use Rattle.cep_rule.specs.Steps.{Spot, IsMachineStep, start_spot}
 use Rattle.cep_log.specs.declared.log.Log.{Log}
 use Rattle.cep_log.specs.declared.log.LogStep.{LogStep}
-use Rattle.cep_log.specs.Legal.{IsLegalStep, AreLegalSteps, start_spot}
+use Rattle.cep_log.specs.Legal.{IsLegalStep, AreLegalSteps}
 use Rattle.cep_log.specs.Written.{text_of, DoTheSame, IsRenewal}
 use Rattle.cep_cause.specs.CauseLaws.{CauseLaws}
 use Rattle.cep_cause.specs.declared.reordered.Reordered.{Reordered}

@@ -9,7 +9,7 @@ use Rattle.cep_base.proofs.Elements.{contains_first, contains_behind, contains_s
 use Rattle.cep_term.specs.Multiset.{Multiset}
 use Rattle.cep_rule.specs.declared.parts.Parts.{Parts}
 use Rattle.cep_rule.specs.State.{IsState}
-use Rattle.cep_rule.specs.Steps.{Spot}
+use Rattle.cep_rule.specs.Steps.{Spot, start_spot}
 use Rattle.cep_rule.specs.Program.{IsTypedRule, IsDividedRule, IsProgram}
 use Rattle.cep_lines.specs.declared.version.Version.TheVariants.{Two}
 use Rattle.cep_lines.specs.Lines.{has_listing}
@@ -17,7 +17,7 @@ use Rattle.cep_log.specs.declared.log.Log.{Log}
 use Rattle.cep_log.specs.declared.log.LogStep.{LogStep}
 use Rattle.cep_log.specs.declared.log.LogMid.{LogMid}
 use Rattle.cep_log.specs.declared.log.LogEnd.{LogEnd}
-use Rattle.cep_log.specs.Legal.{IsListing, IsStepOf, HaveListings, AreLegalSteps, start_spot, IsLegal}
+use Rattle.cep_log.specs.Legal.{IsListing, IsStepOf, HaveListings, AreLegalSteps, IsLegal}
 use Rattle.cep_log.specs.Written.{DoTheSame, EndTheSame}
 use Rattle.cep_cause.specs.CauseLaws.{CauseLaws}
 use Rattle.cep_cause.specs.Tokens.{start_tokens}

@@ -15,10 +15,10 @@ use Rattle.cep_rule.specs.Binding.{needed_of}
 use Rattle.cep_rule.specs.Instances.{full_instance, full_instances, left_of, used_by}
 use Rattle.cep_rule.specs.Matching.{state_after}
 use Rattle.cep_rule.specs.State.{IsState}
-use Rattle.cep_rule.specs.Steps.{Spot}
+use Rattle.cep_rule.specs.Steps.{Spot, start_spot}
 use Rattle.cep_rule.specs.Program.{IsTypedRule, IsDividedRule, IsProgram}
 use Rattle.cep_log.specs.declared.log.LogStep.{LogStep}
-use Rattle.cep_log.specs.Legal.{IsLegalStep, AreLegalSteps, start_spot}
+use Rattle.cep_log.specs.Legal.{IsLegalStep, AreLegalSteps}
 use Rattle.cep_cause.specs.CauseLaws.{CauseLaws}
 use Rattle.cep_cause.specs.Tokens.{Token, numbered, listed_copies, start_tokens, token_atoms, token_state, staying, ArePicks, picked_to_go}
 use Rattle.cep_cause.specs.Touches.{Touch, present_after, present_after_all, IsTouch, AreTouches}

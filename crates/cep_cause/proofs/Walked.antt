@@ -10,7 +10,7 @@ use Rattle.cep_rule.specs.declared.rule.Rule.{Rule}
 use Rattle.cep_rule.specs.declared.parts.Parts.{Parts}
 use Rattle.cep_rule.specs.State.{Fits}
 use Rattle.cep_rule.specs.Step.{Step}
-use Rattle.cep_rule.specs.Steps.{Spot, MakesFit}
+use Rattle.cep_rule.specs.Steps.{Spot, MakesFit, start_spot}
 use Rattle.cep_rule.specs.Program.{IsProgram}
 use Rattle.cep_step.specs.declared.limit.Limit.{Limit}
 use Rattle.cep_step.specs.declared.limit.Limit.TheVariants.{Atom, State}
@@ -18,7 +18,7 @@ use Rattle.cep_step.specs.Passing.{Passes}
 use Rattle.cep_step.specs.Spots.{IsSpotOf}
 use Rattle.cep_log.specs.declared.log.Log.{Log}
 use Rattle.cep_log.specs.declared.log.LogStep.{LogStep}
-use Rattle.cep_log.specs.Legal.{IsStepOf, IsLegalStep, AreLegalSteps, start_spot, IsLegal}
+use Rattle.cep_log.specs.Legal.{IsStepOf, IsLegalStep, AreLegalSteps, IsLegal}
 use Rattle.cep_check.specs.Renewing.{CanBePut}
 use Rattle.cep_check.specs.StepwiseLaws.{StepwiseLaws}
 use Rattle.cep_cause.specs.CauseLaws.{CauseLaws}

@@ -7,13 +7,13 @@ use Rattle.cep_base.specs.declared.limits.TheConstants.{MOST_LOG}
 use Rattle.cep_base.proofs.Lists.{none_some, some_same}
 use Rattle.cep_base.proofs.Drops.{drop_at}
 use Rattle.cep_rule.specs.declared.parts.Parts.{Parts}
-use Rattle.cep_rule.specs.Steps.{Spot}
+use Rattle.cep_rule.specs.Steps.{Spot, start_spot}
 use Rattle.cep_rule.specs.Program.{IsProgram}
 use Rattle.cep_step.specs.Spots.{IsSpotOf}
 use Rattle.cep_lines.specs.Lines.{header}
 use Rattle.cep_log.specs.declared.log.Log.{Log}
 use Rattle.cep_log.specs.declared.log.LogStep.{LogStep}
-use Rattle.cep_log.specs.Legal.{start_spot, IsLegal}
+use Rattle.cep_log.specs.Legal.{IsLegal}
 use Rattle.cep_check.specs.Renewing.{renewed_lines, last_lines, LeadsTo, IsRenewingAt}
 use Rattle.cep_check.specs.StepwiseLaws.{StepwiseLaws}
 use Rattle.cep_cause.specs.Touches.{Touch, AreTouchesOf}

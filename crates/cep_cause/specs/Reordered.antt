@@ -6,11 +6,11 @@ use Rattle.cep_rule.specs.declared.rule.Rule.{Rule}
 use Rattle.cep_rule.specs.declared.parts.Parts.{Parts}
 use Rattle.cep_rule.specs.State.{Fits}
 use Rattle.cep_rule.specs.Step.{Step}
-use Rattle.cep_rule.specs.Steps.{Spot}
+use Rattle.cep_rule.specs.Steps.{Spot, start_spot}
 use Rattle.cep_lines.specs.declared.version.Version.TheVariants.{One}
 use Rattle.cep_log.specs.declared.log.Log.{Log}
 use Rattle.cep_log.specs.declared.log.LogStep.{LogStep}
-use Rattle.cep_log.specs.Legal.{AreLegalSteps, start_spot, IsLegalEnd}
+use Rattle.cep_log.specs.Legal.{AreLegalSteps, IsLegalEnd}
 use Rattle.cep_log.specs.Transcript.{HasLog}
 use Rattle.cep_log.specs.Written.{text_of, IsRenewal}
 use Rattle.cep_cause.specs.declared.reordered.Reordered.{Reordered}

@@ -1,11 +1,11 @@
 //! Laws of reorderings. Each function computes nothing, and its contract is the law.
 ghost use Rattle.std.specs.Prelude.{◌≡◌, ◌↔◌, ◌⊎◌, ℕ, List, map};
 ghost use Rattle.cep_rule.specs.declared.parts.Parts.{Parts};
-ghost use Rattle.cep_rule.specs.Steps.{Spot};
+ghost use Rattle.cep_rule.specs.Steps.{Spot, start_spot};
 ghost use Rattle.cep_rule.specs.Program.{IsProgram};
 ghost use Rattle.cep_log.specs.declared.log.Log.{Log};
 ghost use Rattle.cep_log.specs.declared.log.LogStep.{LogStep};
-ghost use Rattle.cep_log.specs.Legal.{IsLegal, AreLegalSteps, start_spot};
+ghost use Rattle.cep_log.specs.Legal.{IsLegal, AreLegalSteps};
 ghost use Rattle.cep_log.specs.Written.{IsRenewal};
 ghost use Rattle.cep_order.specs.declared.step_cause.StepCause.{StepCause};
 ghost use Rattle.cep_order.specs.Orders.{NamesEarlier, IsOrderBy};

@@ -8,13 +8,13 @@ use Rattle.cep_term.specs.Tree.{atom_of}
 use Rattle.cep_rule.specs.declared.rule.Rule.{Rule}
 use Rattle.cep_rule.specs.declared.parts.Parts.{Parts}
 use Rattle.cep_rule.specs.declared.offer.Offer.{Offer}
-use Rattle.cep_rule.specs.Steps.{Spot}
+use Rattle.cep_rule.specs.Steps.{Spot, start_spot}
 use Rattle.cep_text.specs.Texts.{offer_text}
 use Rattle.cep_lines.specs.declared.end_word.EndWord.TheVariants.{Quiet}
 use Rattle.cep_log.specs.declared.log.Log.{Log}
 use Rattle.cep_log.specs.declared.log.LogStep.{LogStep}
 use Rattle.cep_log.specs.declared.log.LogEnd.{LogEnd}
-use Rattle.cep_log.specs.Legal.{AtomsRise, IsListing, IsStepOf, IsLogOf, start_spot}
+use Rattle.cep_log.specs.Legal.{AtomsRise, IsListing, IsStepOf, IsLogOf}
 use Rattle.cep_check.specs.declared.cause.Cause.{Cause}
 use Rattle.cep_check.specs.declared.cause.Cause.TheVariants.{StartStage, StartState, OtherStage, NotContained, NotProved, TooHigh, NotQuiet, OverLimit, StageLine, MidState, NotEnded, EndState}
 use Rattle.cep_check.specs.Causes.{IsFirstAsked, IsTrulyQuiet, IsStartCause, IsStepCause, IsEndCause, IsRefusedFrom, IsLogRefused}

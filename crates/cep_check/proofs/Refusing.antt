@@ -15,12 +15,12 @@ use Rattle.cep_rule.specs.Derivations.{ProofTree, Proves, proof_height}
 use Rattle.cep_rule.specs.State.{Fits}
 use Rattle.cep_rule.specs.Stages.{own_group, leaving_group}
 use Rattle.cep_rule.specs.Step.{Step}
-use Rattle.cep_rule.specs.Steps.{Spot, AreProofs, IsMachineStep, stage_after}
+use Rattle.cep_rule.specs.Steps.{Spot, AreProofs, IsMachineStep, stage_after, start_spot}
 use Rattle.cep_log.specs.declared.log.Log.{Log}
 use Rattle.cep_log.specs.declared.log.LogStep.{LogStep}
 use Rattle.cep_log.specs.declared.log.LogMid.{LogMid}
 use Rattle.cep_log.specs.declared.log.LogEnd.{LogEnd}
-use Rattle.cep_log.specs.Legal.{IsLegalStep, AreLegalSteps, IsLegalEnd, IsLegal, start_spot}
+use Rattle.cep_log.specs.Legal.{IsLegalStep, AreLegalSteps, IsLegalEnd, IsLegal}
 use Rattle.cep_step.specs.declared.limit.Limit.TheVariants.{Atom, State}
 use Rattle.cep_check.specs.declared.cause.Cause.{Cause}
 use Rattle.cep_check.specs.declared.cause.Cause.TheVariants.{StartStage, StartState, OtherStage, NotContained, NotProved, TooHigh, NotQuiet, OverLimit, StageLine, MidState, NotEnded, EndState}

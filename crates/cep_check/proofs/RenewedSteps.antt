@@ -19,13 +19,13 @@ use Rattle.cep_step.specs.Spots.{IsSpotOf}
 use Rattle.cep_rule.specs.Instances.{full_instances}
 use Rattle.cep_rule.specs.Derivations.{ProofTree}
 use Rattle.cep_rule.specs.Shapes.{IsProofOf}
-use Rattle.cep_rule.specs.Steps.{Spot, StepsTo, AreProofs}
+use Rattle.cep_rule.specs.Steps.{Spot, StepsTo, AreProofs, start_spot}
 use Rattle.cep_rule.specs.Program.{IsTypedRule, IsDividedRule, IsProgram}
 use Rattle.cep_lines.specs.declared.version.Version.TheVariants.{Two}
 use Rattle.cep_lines.specs.Lines.{line, has_listing}
 use Rattle.cep_log.specs.declared.log.Log.{Log}
 use Rattle.cep_log.specs.declared.log.LogStep.{LogStep}
-use Rattle.cep_log.specs.Legal.{IsListing, IsStepOf, IsLegalStep, AreLegalSteps, start_spot, IsLegal}
+use Rattle.cep_log.specs.Legal.{IsListing, IsStepOf, IsLegalStep, AreLegalSteps, IsLegal}
 use Rattle.cep_log.specs.Written.{step_texts, steps_texts}
 use Rattle.cep_check.specs.RenewLaws.{RenewLaws}
 use Rattle.cep_check.specs.Renewing.{CanBePut, CanBeDone, LeadsTo, PassesAt, renewed_lines, AreRenewedLines, AreAllRenewed, AreRenewedOrLong, IsRenewingAt}

@@ -13,14 +13,14 @@ use Rattle.cep_rule.specs.Derivations.{ProofTree, Proves, proof_height}
 use Rattle.cep_rule.specs.State.{Fits}
 use Rattle.cep_rule.specs.Stages.{own_group, leaving_group, HasOffer}
 use Rattle.cep_rule.specs.Step.{Step}
-use Rattle.cep_rule.specs.Steps.{Spot, MakesFit, AreProofs}
+use Rattle.cep_rule.specs.Steps.{Spot, MakesFit, AreProofs, start_spot}
 use Rattle.cep_scratch.specs.First.{IsFirstOffer}
 use Rattle.cep_lines.specs.declared.end_word.EndWord.TheVariants.{Quiet}
 use Rattle.cep_log.specs.declared.log.Log.{Log}
 use Rattle.cep_log.specs.declared.log.LogStep.{LogStep}
 use Rattle.cep_log.specs.declared.log.LogMid.{LogMid}
 use Rattle.cep_log.specs.declared.log.LogEnd.{LogEnd}
-use Rattle.cep_log.specs.Legal.{IsLegalStep, IsLegal, start_spot}
+use Rattle.cep_log.specs.Legal.{IsLegalStep, IsLegal}
 use Rattle.cep_step.specs.Passing.{Passes}
 use Rattle.cep_check.specs.declared.cause.Cause.{Cause}
 use Rattle.cep_check.specs.declared.cause.Verdict.{Verdict}

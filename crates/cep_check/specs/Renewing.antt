@@ -7,7 +7,7 @@ use Rattle.cep_rule.specs.declared.rule.Rule.{Rule}
 use Rattle.cep_rule.specs.declared.signature.Signature.{Signature}
 use Rattle.cep_rule.specs.declared.parts.Parts.{Parts}
 use Rattle.cep_rule.specs.Shapes.{IsOfferOf, IsProofOf}
-use Rattle.cep_rule.specs.Steps.{Spot, StepsTo}
+use Rattle.cep_rule.specs.Steps.{Spot, StepsTo, start_spot}
 use Rattle.cep_step.specs.declared.limit.Limit.{Limit}
 use Rattle.cep_step.specs.Changes.{CanStep}
 use Rattle.cep_step.specs.Passing.{Passes}
@@ -17,7 +17,7 @@ use Rattle.cep_lines.specs.Lines.{line, deed_lines, end_lines}
 use Rattle.cep_log.specs.declared.log.Log.{Log}
 use Rattle.cep_log.specs.declared.log.LogStep.{LogStep}
 use Rattle.cep_log.specs.declared.log.LogEnd.{LogEnd}
-use Rattle.cep_log.specs.Legal.{IsStepOf, HaveListings, AreLegalSteps, start_spot, IsLegalEnd}
+use Rattle.cep_log.specs.Legal.{IsStepOf, HaveListings, AreLegalSteps, IsLegalEnd}
 use Rattle.cep_log.specs.Written.{steps_texts, DoTheSame}
 
 -- A step can be put: its offer and its derivations are the program's, and its stage is one of the

@@ -3,12 +3,12 @@ use Rattle.std.specs.Prelude.{◌≡◌, ℕ, ◌+◌, ◌<◌, ◌≤◌, List,
 use Rattle.cep_base.specs.declared.limits.TheConstants.{MOST_LOG}
 use Rattle.cep_rule.specs.declared.parts.Parts.{Parts}
 use Rattle.cep_rule.specs.Program.{IsProgram}
-use Rattle.cep_rule.specs.Steps.{Spot}
+use Rattle.cep_rule.specs.Steps.{Spot, start_spot}
 use Rattle.cep_step.specs.Spots.{IsSpotOf}
 use Rattle.cep_lines.specs.Lines.{header}
 use Rattle.cep_log.specs.declared.log.Log.{Log}
 use Rattle.cep_log.specs.declared.log.LogStep.{LogStep}
-use Rattle.cep_log.specs.Legal.{IsStepOf, IsLegalStep, IsLegal, start_spot}
+use Rattle.cep_log.specs.Legal.{IsStepOf, IsLegalStep, IsLegal}
 use Rattle.cep_check.specs.Renewed.{IsRenewedText, IsTooLongRenewed}
 use Rattle.cep_check.specs.Renewing.{CanBePut, LeadsTo, renewed_lines, last_lines, IsRenewingAt}
 

@@ -6,7 +6,7 @@ ghost use Rattle.std.specs.Prelude.{◌≡◌, ◌↔◌, ◌<◌, ◌++◌, len
 ghost use Rattle.cep_base.specs.declared.limits.TheConstants.{MOST_LOG};
 ghost use Rattle.cep_rule.specs.State.{IsState};
 ghost use Rattle.cep_text.specs.Writing.{IsBegun};
-ghost use Rattle.cep_log.specs.Legal.{IsLegal, start_spot};
+ghost use Rattle.cep_log.specs.Legal.{IsLegal};
 ghost use Rattle.cep_check.specs.Renewed.{IsRenewedText, IsTooLongRenewed};
 ghost use Rattle.cep_check.specs.Renewing.{AreRenewedOrLong, last_lines};
 

@@ -15,13 +15,13 @@ use Rattle.cep_rule.specs.State.{IsState, Fits}
 use Rattle.cep_rule.specs.Instances.{full_instance, full_instances}
 use Rattle.cep_rule.specs.Derivations.{ProofTree, proof_height}
 use Rattle.cep_rule.specs.Stages.{IsQuiet}
-use Rattle.cep_rule.specs.Steps.{Spot, AreProofs, IsMachineStep}
+use Rattle.cep_rule.specs.Steps.{Spot, AreProofs, IsMachineStep, start_spot}
 use Rattle.cep_rule.specs.Program.{IsTypedRule, IsDividedRule, IsProgram}
 use Rattle.cep_log.specs.declared.log.Log.{Log}
 use Rattle.cep_log.specs.declared.log.LogStep.{LogStep}
 use Rattle.cep_log.specs.declared.log.LogMid.{LogMid}
 use Rattle.cep_log.specs.declared.log.LogEnd.{LogEnd}
-use Rattle.cep_log.specs.Legal.{IsListing, IsStepOf, AreLegalSteps, start_spot, IsLegalEnd, IsLegal}
+use Rattle.cep_log.specs.Legal.{IsListing, IsStepOf, AreLegalSteps, IsLegalEnd, IsLegal}
 use Rattle.cep_lines.specs.declared.end_word.EndWord.{EndWord}
 use Rattle.cep_lines.specs.declared.end_word.EndWord.TheVariants.{Quiet}
 use Rattle.cep_step.specs.Deeds.{Position, start_of, Deed, IsDeed, AreDeeds}

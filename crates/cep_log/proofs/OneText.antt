@@ -11,7 +11,7 @@ use Rattle.cep_rule.specs.declared.rule.Rule.{Rule}
 use Rattle.cep_rule.specs.declared.parts.Parts.{Parts}
 use Rattle.cep_rule.specs.declared.offer.Offer.{Offer}
 use Rattle.cep_rule.specs.Step.{Step}
-use Rattle.cep_rule.specs.Steps.{Spot, stage_after}
+use Rattle.cep_rule.specs.Steps.{Spot, stage_after, start_spot}
 use Rattle.cep_lines.specs.declared.version.Version.{Version}
 use Rattle.cep_lines.specs.declared.version.Version.TheVariants.{Two}
 use Rattle.cep_lines.specs.Lines.{has_listing}
@@ -19,7 +19,7 @@ use Rattle.cep_log.specs.declared.log.Log.{Log}
 use Rattle.cep_log.specs.declared.log.LogStep.{LogStep}
 use Rattle.cep_log.specs.declared.log.LogMid.{LogMid}
 use Rattle.cep_log.specs.declared.log.LogEnd.{LogEnd}
-use Rattle.cep_log.specs.Legal.{HaveListings, AreLegalSteps, start_spot}
+use Rattle.cep_log.specs.Legal.{HaveListings, AreLegalSteps}
 use Rattle.cep_log.specs.Written.{text_of, DoTheSame, ListTheSame, SayTheSame, EndTheSame, IsRenewal}
 use Rattle.cep_log.proofs.SameLogs.{same_text}
 

@@ -10,7 +10,7 @@ use Rattle.cep_rule.specs.declared.offer.Offer.{Offer}
 use Rattle.cep_rule.specs.Limits.{IsHeight}
 use Rattle.cep_rule.specs.Typing.{AreValues}
 use Rattle.cep_rule.specs.Derivations.{ProofTree, proof_height}
-use Rattle.cep_rule.specs.Steps.{Spot, IsMachineStep}
+use Rattle.cep_rule.specs.Steps.{Spot, IsMachineStep, start_spot}
 use Rattle.cep_lines.specs.declared.version.Version.{Version}
 use Rattle.cep_lines.specs.declared.end_word.EndWord.{EndWord}
 use Rattle.cep_lines.specs.Lines.{line, version_text, height_text, stage_text, have_text, step_text, by_text, state_text, end_text}
@@ -19,7 +19,7 @@ use Rattle.cep_log.specs.declared.log.LogStep.{LogStep}
 use Rattle.cep_log.specs.declared.log.LogMid.{LogMid}
 use Rattle.cep_log.specs.declared.log.LogEnd.{LogEnd}
 use Rattle.cep_log.specs.Transcript.{stage_texts}
-use Rattle.cep_log.specs.Legal.{IsListing, IsStepOf, HaveListings, IsLegalStep, AreLegalSteps, start_spot, IsLegalEnd, IsLegal}
+use Rattle.cep_log.specs.Legal.{IsListing, IsStepOf, HaveListings, IsLegalStep, AreLegalSteps, IsLegalEnd, IsLegal}
 use Rattle.cep_log.specs.Written.{start_texts, mid_texts, step_texts, steps_texts, end_texts, text_of, ListTheSame, SayTheSame, EndTheSame, TellTheSame}
 
 -- Listings

@@ -9,6 +9,7 @@ use Rattle.cep_base.proofs.Elements.{both_all}
 use Rattle.cep_rule.specs.declared.parts.Parts.{Parts}
 use Rattle.cep_rule.specs.Limits.{IsHeight}
 use Rattle.cep_rule.specs.Program.{IsProgram}
+use Rattle.cep_rule.specs.Steps.{start_spot}
 use Rattle.cep_lines.specs.declared.version.Version.{Version}
 use Rattle.cep_lines.specs.declared.version.Version.TheVariants.{One, Two}
 use Rattle.cep_lines.specs.Lines.{line, has_listing, version_text, height_text, stage_text, have_text, step_text, by_text, state_text, end_text}
@@ -18,7 +19,7 @@ use Rattle.cep_log.specs.declared.log.LogMid.{LogMid}
 use Rattle.cep_log.specs.declared.log.LogEnd.{LogEnd}
 use Rattle.cep_log.specs.declared.so_far.SoFar.{SoFar}
 use Rattle.cep_log.specs.declared.so_far.SoFar.TheVariants.{Nothing, Begun, Height, Whole, Unlisted, Listed, Ended}
-use Rattle.cep_log.specs.Legal.{IsListing, HaveListings, start_spot, IsLegalEnd, IsLegal}
+use Rattle.cep_log.specs.Legal.{IsListing, HaveListings, IsLegalEnd, IsLegal}
 use Rattle.cep_log.specs.Transcript.{IsOneLine, IsPassedOver, stage_texts, Leads, HasLog, log_begun, mid_begun, end_begun, next_number, log_with, with_own}
 use Rattle.cep_log.specs.Written.{start_texts, mid_texts, step_texts, end_texts, IsRemark, TellSteps, TellLog, ListTheSame, SayTheSame, EndTheSame, TellTheSame}
 use Rattle.cep_log.proofs.OneLine.{written_lines}

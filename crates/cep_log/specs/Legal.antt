@@ -13,7 +13,7 @@ use Rattle.cep_rule.specs.Typing.{AreValues}
 use Rattle.cep_rule.specs.Limits.{IsHeight}
 use Rattle.cep_rule.specs.Derivations.{proof_height}
 use Rattle.cep_rule.specs.Stages.{IsQuiet}
-use Rattle.cep_rule.specs.Steps.{Spot, IsMachineStep}
+use Rattle.cep_rule.specs.Steps.{Spot, IsMachineStep, start_spot}
 use Rattle.cep_text.specs.Texts.{IsTypedGround}
 use Rattle.cep_lines.specs.declared.version.Version.{Version}
 use Rattle.cep_lines.specs.Lines.{has_listing}
@@ -79,10 +79,6 @@ abbrev pub AreLegalSteps : Parts → ℕ → List LogStep → Spot → Spot → 
 AreLegalSteps program height [] old last = last ≡ old
 AreLegalSteps program height (step ∷ steps) old last =
     (new : Spot) × IsLegalStep program height old new step × AreLegalSteps program height steps new last
-
--- where every run of the program begins
-abbrev pub start_spot : Parts → Spot
-start_spot program = record { stage = program.start_stage; state = program.start }
 
 -- An end is legal at a spot: `quiet` is said only where the spot is quiet, and the listing is that of the spot's state.
 pub record IsLegalEnd (program : Parts) (height : ℕ) (last : Spot) (end : LogEnd) : Type 0 where

@@ -5,9 +5,8 @@ use Rattle.cep_rule.specs.declared.parts.Parts.{Parts}
 use Rattle.cep_ground.specs.Texts.{Spells}
 use Rattle.cep_words.specs.declared.request.Task.TheVariants.{Check}
 use Rattle.cep_words.specs.Words.{Examine, AskFor}
-use Rattle.cep_rule.specs.Steps.{Spot}
+use Rattle.cep_rule.specs.Steps.{Spot, start_spot}
 use Rattle.cep_log.specs.declared.log.Log.{Log}
-use Rattle.cep_log.specs.Legal.{start_spot}
 use Rattle.cep_run.specs.declared.settings.Settings.{Settings}
 use Rattle.cep_replay.specs.Playing.{AreTypedFor, CanBePlayed, IsReplayed, AreInteractive, HaveFewOffers}
 use Rattle.cep_play.specs.Check.{IsLegalTranscript}

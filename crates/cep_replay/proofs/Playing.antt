@@ -19,7 +19,7 @@ use Rattle.cep_rule.specs.declared.parts.Parts.{Parts}
 use Rattle.cep_rule.specs.declared.offer.Offer.{Offer}
 use Rattle.cep_rule.specs.Stages.{IsQuiet}
 use Rattle.cep_rule.specs.Step.{Step}
-use Rattle.cep_rule.specs.Steps.{Spot, StepsTo, stage_after}
+use Rattle.cep_rule.specs.Steps.{Spot, StepsTo, stage_after, start_spot}
 use Rattle.cep_step.specs.Deeds.{Position, Deed, start_of}
 use Rattle.cep_choice.specs.TypedLine.{Ended, ReadsLine, IsLine, Chooses}
 use Rattle.cep_lines.specs.Lines.{line, header}
@@ -29,7 +29,7 @@ use Rattle.cep_log.specs.declared.log.Log.{Log}
 use Rattle.cep_log.specs.declared.log.LogStep.{LogStep}
 use Rattle.cep_log.specs.declared.log.LogEnd.{LogEnd}
 use Rattle.cep_log.specs.Transcript.{IsOneLine}
-use Rattle.cep_log.specs.Legal.{start_spot, IsLegalStep, AreLegalSteps, IsLegalEnd, IsLegal}
+use Rattle.cep_log.specs.Legal.{IsLegalStep, AreLegalSteps, IsLegalEnd, IsLegal}
 use Rattle.cep_log.specs.Holding.{HoldsDeed, HoldsEnd, HoldsDeeds}
 use Rattle.cep_run.specs.declared.choice.Choice.TheVariants.{Place, NoMore}
 use Rattle.cep_run.specs.declared.settings.Settings.{Settings}

@@ -3,9 +3,9 @@
 ghost use Rattle.std.specs.Prelude.{◌≡◌, ℕ, List, Option};
 ghost use Rattle.cep_rule.specs.declared.parts.Parts.{Parts};
 ghost use Rattle.cep_rule.specs.Program.{IsProgram};
-ghost use Rattle.cep_rule.specs.Steps.{Spot};
+ghost use Rattle.cep_rule.specs.Steps.{Spot, start_spot};
 ghost use Rattle.cep_log.specs.declared.log.Log.{Log};
-ghost use Rattle.cep_log.specs.Legal.{start_spot, IsLegal};
+ghost use Rattle.cep_log.specs.Legal.{IsLegal};
 ghost use Rattle.cep_run.specs.declared.settings.Settings.{Settings};
 ghost use Rattle.cep_replay.specs.Playing.{
   AreTypedFor,

@@ -18,6 +18,10 @@ pub record Spot : Type 0 where
   pub stage : ℕ
   pub state : Multiset
 
+-- where every run of a program begins
+abbrev pub start_spot : Parts → Spot
+start_spot program = record { stage = program.start_stage; state = program.start }
+
 -- All atoms that the rule makes are fit.
 abbrev pub MakesFit : Rule → List Tree → Type 0
 MakesFit rule values = AllByRecursion IsFit (full_instances values rule.right)

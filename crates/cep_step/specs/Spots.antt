@@ -9,10 +9,6 @@ use Rattle.cep_rule.specs.declared.parts.Parts.{Parts}
 use Rattle.cep_rule.specs.State.{IsState, Fits}
 use Rattle.cep_rule.specs.Steps.{Spot}
 
--- where every run of a program begins
-abbrev pub start_spot : Parts → Spot
-start_spot program = record { stage = program.start_stage; state = program.start }
-
 -- A spot is one of a program's: its stage is, and its state is a state of the program that fits.
 pub record IsSpotOf (program : Parts) (spot : Spot) : Type 0 where
   pub stage : spot.stage < length program.stages

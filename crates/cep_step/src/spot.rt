@@ -4,7 +4,8 @@ ghost use Rattle.cep_base.specs.declared.limits.TheConstants.{MOST_STAGES};
 ghost use Rattle.cep_term.specs.Tree.{IsGroundAtom};
 ghost use Rattle.cep_term.specs.Multiset.{IsContained};
 ghost use Rattle.cep_rule.specs.State.{Fits};
-ghost use Rattle.cep_step.specs.Spots.{IsSpotOf, start_spot};
+ghost use Rattle.cep_rule.specs.Steps.{start_spot};
+ghost use Rattle.cep_step.specs.Spots.{IsSpotOf};
 ghost use Rattle.cep_step.specs.Changes.{CanStep, CanChange, IsWeighed, changed, edited};
 
 use crate::change::Change;
