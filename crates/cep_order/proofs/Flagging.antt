@@ -1,5 +1,5 @@
 -- Flags that are set, counted and listed.
-use Rattle.std.proofs.Common.{◌≡◌, ◌⊎◌, inl, inr, ⊎_elim, ℕ, zero, suc, ◌+◌, ◌<◌, ◌≤◌, Bool, true, false, cond, List, [], ◌∷◌, length, get_or, take, set, replicate, refl, sym, ap, ◌∙◌, subst, arith, Some}
+use Rattle.std.proofs.Common.{◌≡◌, ◌⊎◌, inl, inr, ⊎_elim, ℕ, zero, suc, ◌+◌, ◌<◌, ◌≤◌, Bool, true, false, cond, List, [], ◌∷◌, length, get_or, take, set, replicate, refl, sym, ap, ◌∙◌, arith, Some}
 use Rattle.std.specs.Prelude.{slice_get, count_by}
 use Rattle.std.proofs.lemmas.List.{length-take, get_or-take, take-set-le, take-take, take_all, get_or_past}
 use Rattle.std.proofs.lemmas.Bool.{cases_lt, false≢true}
@@ -25,12 +25,10 @@ pub written_after : (flags : List Bool) (place x : ℕ) (flag : Bool) → x ≤ 
 written_after flags place x flag later = ap (count_by (λ f. f)) (take-set-le x flags place flag later)
 
 pub set_counts : (flags : List Bool) (place x : ℕ) → place < length flags → place < x → get_or flags place false ≡ false → set_before (set flags place true) x ≡ set_before flags x + 1
-set_counts flags place x within before off =
-    omega (arith, ap (count_by (λ f. f)) (take-set-lt x flags place true before), sum_by-set (λ f. cond f 1 0) (take x flags) place true false (omega (arith, length-take x flags)), ap {B = ℕ} (λ f. cond f 1 0) (get_or-take x flags place false before ∙ off))
+set_counts flags place x within before off = grind (arith, take-set-lt, sum_by-set, length-take, get_or-take)
 
 pub unset_counts : (flags : List Bool) (place x : ℕ) → place < length flags → place < x → get_or flags place false ≡ true → set_before flags x ≡ set_before (set flags place false) x + 1
-unset_counts flags place x within before on =
-    omega (arith, ap (count_by (λ f. f)) (take-set-lt x flags place false before), sum_by-set (λ f. cond f 1 0) (take x flags) place false false (omega (arith, length-take x flags)), ap {B = ℕ} (λ f. cond f 1 0) (get_or-take x flags place false before ∙ on))
+unset_counts flags place x within before on = grind (arith, take-set-lt, sum_by-set, length-take, get_or-take)
 
 -- Where no flag is set none is counted.
 pub none_counted : (n x : ℕ) → set_before (replicate n false) x ≡ 0
@@ -61,10 +59,6 @@ as_many from (false ∷ flags) = omega (arith, one_more false flags (length flag
 pub place_found : (from : ℕ) (flags : List Bool) (place : ℕ) → get_or flags place false ≡ true → slice_get (set_places_from from flags) (set_before flags place) ≡ Some (from + place)
 place_found from [] place on = absurd (cc)
 place_found from (true ∷ flags) zero on = ap Some (omega arith)
-place_found from (true ∷ flags) (suc place) on =
-    let more : set_before (true ∷ flags) (suc place) ≡ suc (set_before flags place) = omega (arith, one_more true flags place) in
-    subst (λ n. slice_get (from ∷ set_places_from (from + 1) flags) n ≡ Some (from + suc place)) (sym more) (place_found (from + 1) flags place on ∙ ap Some (omega arith))
+place_found from (true ∷ flags) (suc place) on = grind (arith, one_more true flags place, place_found (from + 1) flags place on)
 place_found from (false ∷ flags) zero on = absurd (cc)
-place_found from (false ∷ flags) (suc place) on =
-    let same : set_before (false ∷ flags) (suc place) ≡ set_before flags place = omega (arith, one_more false flags place) in
-    subst (λ n. slice_get (set_places_from (from + 1) flags) n ≡ Some (from + suc place)) (sym same) (place_found (from + 1) flags place on ∙ ap Some (omega arith))
+place_found from (false ∷ flags) (suc place) on = grind (arith, one_more, place_found (from + 1) flags place on)

@@ -1,12 +1,12 @@
 -- Links from each number to those in whose entries it stands.
-use Rattle.std.proofs.Common.{◌≡◌, ◌≢◌, ⊎_elim, ℕ, zero, suc, ◌+◌, ◌-◌, ◌<◌, ◌≤◌, false, cond, eqb, List, [], ◌∷◌, ◌++◌, length, get_or, set, replicate, Some, None, refl, sym, ap, ◌∙◌, subst, arith, length-append, length-set}
+use Rattle.std.proofs.Common.{◌≡◌, ◌≢◌, ⊎_elim, ℕ, zero, suc, ◌+◌, ◌-◌, ◌<◌, ◌≤◌, List, [], ◌∷◌, ◌++◌, length, get_or, set, replicate, Some, None, refl, sym, ap, ◌∙◌, subst, arith, length-append, length-set}
 use Rattle.std.specs.Prelude.{slice_get}
 use Rattle.std.proofs.lemmas.Bool.{cases_lt, cases_eq}
 use Rattle.std.proofs.lemmas.Bool.Decides.{nat_tests}
 use Rattle.std.proofs.lemmas.List.{get_or_append_left, get_or_at, get_or_past, get_or-set_same, get_or-set_other}
 use Rattle.cep_base.proofs.Lists.{none_some, some_same, get_kept, get_last}
 use Rattle.cep_order.specs.declared.waits.Link.{Link}
-use Rattle.cep_order.specs.Waits.{times, entry_at, follow, chain, linked_from, AreLinks, AreLinksFor}
+use Rattle.cep_order.specs.Waits.{times, entry_at, chain, linked_from, AreLinks, AreLinksFor}
 use Rattle.cep_order.proofs.Times.{once_more, no_more, once_more_last, no_more_last}
 use Rattle.cep_order.proofs.Trees.{nothing_at}
 
@@ -30,9 +30,7 @@ no_link zero links from none = refl
 no_link (suc most) links from none = ap (chain (suc most) links) none
 
 one_link : (most : ℕ) (links : List Link) (from : ℕ) (link : Link) → 0 < from → slice_get links (from - 1) ≡ Some link → chain (suc most) links from ≡ link.step ∷ chain most links link.next
-one_link most links from link some there =
-    let test : eqb from 0 ≡ false = grind (arith, nat_tests) in
-    ap (λ b. cond b [] (follow (slice_get links (from - 1)) (chain most links))) test ∙ ap (λ o. follow o (chain most links)) there
+one_link most links from link some there = grind (arith, nat_tests)
 
 module _ (links : List Link) (back : (place : ℕ) (link : Link) → slice_get links place ≡ Some link → link.next ≤ place) where
   -- With enough links the chain is the same.
@@ -49,10 +47,7 @@ module _ (links : List Link) (back : (place : ℕ) (link : Link) → slice_get l
       (cases_eq from 0)
 
   pub linked_next : (from : ℕ) (link : Link) → 0 < from → from ≤ length links → slice_get links (from - 1) ≡ Some link → linked_from links from ≡ link.step ∷ linked_from links link.next
-  linked_next from link some within there =
-      let earlier = back (from - 1) link there in
-      let one : from ≡ suc (from - 1) = omega arith in
-      ap (λ most. chain most links from) one ∙ one_link (from - 1) links from link some there ∙ ap (λ (steps : List ℕ). link.step ∷ steps) (enough (from - 1) link.next link.next earlier (omega arith) (omega arith))
+  linked_next from link some within there = grind (arith, one_link, enough, link.next)
 
   -- A further link changes none.
   kept : (more : List Link) (most from : ℕ) → from ≤ length links → chain most (links ++ more) from ≡ chain most links from

@@ -66,27 +66,7 @@ module _ (seed : ℕ) (causes : List StepCause) (earlier : NamesEarlier causes) 
         (lone : count ≡ 1 → (drawn_place ≡ 1) × (draw' ≡ draw))
         (several : 1 < count → (s d : ℕ) → draw ≡ generator_behind s d → (drawn_place ≡ place_drawn s d count) × (draw' ≡ generator_behind s (d + 1))) where
       pub taken_next : (drawn' : ℕ) × IsTaken seed causes is.drawn is.taken place drawn' × (draw' ≡ generator_behind seed drawn')
-      taken_next =
-          let are = are_ready seed causes earlier waits flags draw order end is place on in
-          ⊎_elim
-          (λ one. (
-            is.drawn,
-            record { ready = set_places flags; are = are; at = k; there = there; lone = λ same. refl; several = λ more. absurd (omega (arith, more, one, is_count)) },
-            (lone one).1 ∙ is.draws,
-          ))
-          (λ more. let drawn = several (omega arith) seed is.drawn is.draws in (
-            is.drawn + 1,
-            record {
-              ready = set_places flags;
-              are = are;
-              at = k;
-              there = there;
-              lone = λ same. absurd (more (is_count ∙ same));
-              several = λ many. (is_place ∙ drawn.0 ∙ ap (place_drawn seed is.drawn) is_count, refl);
-            },
-            drawn.1,
-          ))
-          (cases_eq count 1)
+      taken_next = grind (arith, are_ready seed causes earlier waits flags draw order end is place on, on, cases_eq, is.drawn, is.draws)
 
     -- It is taken and released.
     module _ (waits' : Waits) (flags' : List Bool) (draw' : Lcg) (released : IsReleased waits waits' (set flags place false) flags' place end)

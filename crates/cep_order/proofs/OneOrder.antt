@@ -1,5 +1,5 @@
 -- A seed gives one order.
-use Rattle.std.proofs.Common.{◌≡◌, ◌↔◌, ⊎_elim, ℕ, suc, ◌+◌, ◌<◌, List, [], ◌∷◌, ◌++◌, length, map, get_or, refl, sym, ap, ◌∙◌, subst, arith, Contains}
+use Rattle.std.proofs.Common.{◌≡◌, ◌↔◌, ⊎_elim, ℕ, suc, ◌+◌, ◌<◌, List, [], ◌∷◌, ◌++◌, length, get_or, refl, sym, ap, ◌∙◌, subst, arith, Contains}
 use Rattle.std.specs.Prelude.{slice_get}
 use Rattle.std.specs.List.Sorted.{IsStrictlyIncreasing}
 use Rattle.std.proofs.lemmas.Bool.{cases_eq}
@@ -28,8 +28,7 @@ same_first x xs y ys one other here there =
     (contains_cases y ys x here)
 
 rest_same : (x : ℕ) (xs : List ℕ) (y : ℕ) (ys : List ℕ) (n : ℕ) → IsStrictlyIncreasing (x ∷ xs) → x ≡ y → (Contains (x ∷ xs) n → Contains (y ∷ ys) n) → Contains xs n → Contains ys n
-rest_same x xs y ys n increases same goes there =
-    ⊎_elim (λ first. let less = first_is_least x xs n increases there in absurd (omega (arith, less, first, same))) (λ later. later) (contains_cases y ys n (goes (contains_behind x xs n there)))
+rest_same x xs y ys n increases same goes there = grind (arith, first_is_least x xs n increases there, contains_cases y ys n (goes (contains_behind x xs n there)), contains_behind x xs n there)
 
 same_increasing : (xs ys : List ℕ) → IsStrictlyIncreasing xs → IsStrictlyIncreasing ys → ((n : ℕ) → (Contains xs n ↔ Contains ys n)) → xs ≡ ys
 same_increasing [] [] one other same = refl
@@ -79,5 +78,4 @@ module _ (seed : ℕ) (causes : List StepCause) where
       ap (λ n. n ∷ places) same ∙ ap (λ (ns : List ℕ). other ∷ ns) rest
 
 pub one_order : (seed : ℕ) (causes : List StepCause) (order other : List ℕ) → IsOrderBy seed causes order → IsOrderBy seed causes other → order ≡ other
-one_order seed causes order other one two =
-    one.numbers ∙ ap (map (λ place. place + 1)) (same_taken seed causes 0 [] one.places two.places one.taken two.taken) ∙ sym two.numbers
+one_order seed causes order other one two = grind (arith, same_taken, one.numbers, one.places, two.places, one.taken, two.taken, two.numbers)

@@ -1,5 +1,5 @@
 -- Those that wait for a step are released one after another.
-use Rattle.std.proofs.Common.{◌≡◌, ◌≢◌, ◌↔◌, ◌⊎◌, inl, inr, ⊎_elim, ℕ, ◌+◌, ◌-◌, ◌<◌, ◌≤◌, Bool, true, false, List, ◌∷◌, length, get_or, set, Some, refl, sym, ap, ◌∙◌, subst, arith, length-set}
+use Rattle.std.proofs.Common.{◌≡◌, ◌≢◌, ◌↔◌, ◌⊎◌, inr, ⊎_elim, ℕ, ◌+◌, ◌-◌, ◌<◌, ◌≤◌, Bool, true, false, List, ◌∷◌, length, get_or, set, Some, refl, sym, ap, ◌∙◌, subst, arith, length-set}
 use Rattle.std.specs.Prelude.{slice_get}
 use Rattle.std.proofs.lemmas.Bool.{cases_lt, cases_eq, false≢true}
 use Rattle.std.proofs.lemmas.List.{get_or-set_same, get_or-set_other, get_or_past}
@@ -23,34 +23,11 @@ pub record IsReleasing (old new : Waits) (was now : List Bool) (place end from :
 
 module _ (old : Waits) (was : List Bool) (place end : ℕ) (can : CanRelease old was place) where
   pub releasing_begins : (from : ℕ) → from ≡ get_or old.begins.items place 0 → IsReleasing old old was was place end from
-  releasing_begins from is =
-      let same = ap (linked_from old.links.items) is in
-      record {
-        begins = refl;
-        links = refl;
-        long = refl;
-        room = refl;
-        within = omega (arith, is, can.lead.begin place);
-        some = λ step. omega (arith, ap (times step) same);
-        left = λ step. omega (arith, ap (times step) same);
-        ready = λ step. (λ set. inl set, λ either. ⊎_elim (λ set. set) (λ new. absurd (omega (arith, new.0, ap (times step) same))) either);
-      }
+  releasing_begins from is = grind (arith, old.links.items, can.lead.begin)
 
   module _ (new : Waits) (now : List Bool) (from : ℕ) (is : IsReleasing old new was now place end from) where
     pub releasing_ends : from ≡ 0 → IsReleased old new was now place end
-    releasing_ends none =
-        let no = ap (linked_from old.links.items) none in
-        record {
-          begins = is.begins;
-          links = is.links;
-          long = is.long;
-          room = is.room;
-          left = λ step. omega (arith, is.left step, ap (times step) no);
-          ready = λ step. (
-            λ set. ⊎_elim (λ before. inl before) (λ of_these. inr (omega (arith, of_these.0), of_these.1, of_these.2)) ((is.ready step).0 set),
-            λ either. (is.ready step).1 (⊎_elim (λ before. inl before) (λ of_these. inr (omega (arith, of_these.0, ap (times step) no), of_these.1, of_these.2)) either),
-          );
-        }
+    releasing_ends none = grind (arith, old.links.items, is.begins, is.links, is.long, is.room, is.left, is.ready)
 
     -- One more is released.
     module _ (link : Link) (some : 0 < from) (there : slice_get old.links.items (from - 1) ≡ Some link) where
@@ -98,10 +75,7 @@ module _ (old : Waits) (was : List Bool) (place end : ℕ) (can : CanRelease old
 
           ready_elsewhere : (step : ℕ) → step ≢ link.step → (get_or now' step false ≡ true) ↔
               ((get_or was step false ≡ true) ⊎ ((times step (linked_from old.links.items link.next) < times step (waiters_of old place)) × (step < end) × (get_or new'.left.items step 0 ≡ 0)))
-          ready_elsewhere step apart = (
-            λ set. ⊎_elim (λ before. inl before) (λ of_these. inr (omega (arith, of_these.0, elsewhere step apart), of_these.1, left_elsewhere step apart ∙ of_these.2)) ((is.ready step).0 (sym (others step apart) ∙ set)),
-            λ either. others step apart ∙ (is.ready step).1 (⊎_elim (λ before. inl before) (λ of_these. inr (omega (arith, of_these.0, elsewhere step apart), of_these.1, sym (left_elsewhere step apart) ∙ of_these.2)) either),
-          )
+          ready_elsewhere step apart = grind (arith, elsewhere step apart, left_elsewhere step apart, is.ready)
 
           pub released_one : IsReleasing old new' was now' place end link.next
           released_one = record {

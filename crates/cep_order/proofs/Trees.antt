@@ -95,9 +95,7 @@ module _ (flags : List Bool) (counts : List ℕ) (height k : ℕ) (tree : IsTree
     here = halves levels below node one
 
     sums : get_or counts node 0 ≡ get_or counts (node * 2) 0 + get_or counts (node * 2 + 1) 0
-    sums =
-        let double : 2 * node ≡ node * 2 = omega arith in
-        omega (arith, inner flags counts height tree node some (omega (arith, here, twice, le-mul_of_pos_right (node + 1) (pow_pos below))), ap (λ n. get_or counts n 0) double, ap (λ n. get_or counts (n + 1) 0) double)
+    sums = grind (arith, inner, here, twice, le-mul_of_pos_right, pow_pos)
 
     first : set_before flags ((node * 2 ^ levels - 2 ^ height) * 64) ≡ set_before flags ((node * 2 * 2 ^ below - 2 ^ height) * 64)
     first = ap (set_before flags) (omega (arith, here))
@@ -177,15 +175,7 @@ module _ (flags : List Bool) (counts : List ℕ) (height here lacks exceeds coun
 
   mended : (node : ℕ) → node ≡ here → Counts flags counts (2 ^ height) node (only_at here lacks node) (only_at here exceeds node)
       → Counts flags (set counts here count) (2 ^ height) node (only_at (here / 2) lacks node) (only_at (here / 2) exceeds node)
-  mended node same was =
-      let now = at_node node same in
-      let none = not_above node (λ e. omega arith) in
-      let lacked = all_here here lacks node same in
-      let exceeded = all_here here exceeds node same in
-      record {
-        inner = λ low. omega (arith, was.inner low, mends, now.0, now.1, none.0, none.1, lacked, exceeded, elsewhere (2 * node) (λ e. omega arith), elsewhere (2 * node + 1) (λ e. omega arith));
-        leaf = λ high. omega (arith, was.leaf high, mends, now.0, now.1, none.0, none.1, lacked, exceeded);
-      }
+  mended node same was = grind (arith, at_node, not_above, all_here, here, inner, elsewhere, leaf, was.inner, was.leaf)
 
   other : (node : ℕ) → node ≢ here → Counts flags counts (2 ^ height) node (only_at here lacks node) (only_at here exceeds node)
       → Counts flags (set counts here count) (2 ^ height) node (only_at (here / 2) lacks node) (only_at (here / 2) exceeds node)
@@ -236,16 +226,4 @@ some_too_many flags counts height here some within nearly =
 
 -- Where no node is off it is a tree.
 pub none_off : (flags : List Bool) (counts : List ℕ) (height here lacks exceeds : ℕ) → here ≡ 0 → IsNearly flags counts height here lacks exceeds → IsTree flags counts height
-none_off flags counts height here lacks exceeds is nearly = record {
-  size = nearly.size;
-  room = nearly.room;
-  few = nearly.few;
-  few_leaves = nearly.few_leaves;
-  each = λ node some within.
-      let was = nearly.each node some within in
-      let apart : node ≢ here = λ e. omega arith in
-      let none = none_elsewhere here lacks node apart in
-      let nor = none_elsewhere here exceeds node apart in
-      let exact = none_elsewhere 0 0 node (λ e. omega arith) in
-      record { inner = λ low. omega (arith, was.inner low, none, nor, exact); leaf = λ high. omega (arith, was.leaf high, none, nor, exact) };
-}
+none_off flags counts height here lacks exceeds is nearly = grind (arith, here, none_elsewhere, inner, leaf, nearly.size, nearly.room, nearly.few, nearly.few_leaves, nearly.each)

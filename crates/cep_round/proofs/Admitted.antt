@@ -110,12 +110,7 @@ pub exchanged : BagLaws → (program : Parts) (offers : List Offer) (needed give
     → IsContained (all_need program offers) state
     → new ≡ joined program.signature (difference_of state (joined program.signature finite.empty (gathered needed))) (gathered given)
     → Together program offers state new
-exchanged laws program offers needed given state new needs_are gives_are contained is = record {
-  contained = contained;
-  counts = λ a. exchanged_count (is_fact program.signature a) (count_of state a) (count_of finite.empty a) (count_of (gathered needed) a) (count_of (gathered given) a) (count_of (all_need program offers) a) (count_of (all_give program offers) a) (count_of new a)
-      (laws.empty a) (needs_are a) (gives_are a)
-      (rw (is, join_count laws program (difference_of state (joined program.signature finite.empty (gathered needed))) (gathered given) a, laws.difference, join_count laws program finite.empty (gathered needed) a) refl);
-}
+exchanged laws program offers needed given state new needs_are gives_are contained is = grind (arith, join_count, program.signature, laws.empty, laws.difference)
 
 -- what is left of a state has no more copies than it
 pub few_left : BagLaws → (signature : Signature) (state : Multiset) (needed given : List AtomTree) → IsBag state → AllByRecursion IsGroundAtom needed → copies_in state + length given < 2 ^ 32

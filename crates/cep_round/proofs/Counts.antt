@@ -79,8 +79,7 @@ facts_within true u n state count e none used needed = elim (cases_lt 0 u) [ inl
 facts_within false u n state count e none used needed = let nothing = none refl in omega arith
 
 pub facts_there : BagLaws → (program : Parts) (state used : Multiset) (offer : Offer) → IsContained used state → IsContained (needs program offer) state → ((a : AtomTree) → is_fact program.signature a ≡ false → count_of (needs program offer) a ≡ 0) → IsContained (joined program.signature used (needs program offer)) state
-facts_there laws program state used offer within within' none a =
-    facts_within (is_fact program.signature a) (count_of used a) (count_of (needs program offer) a) (count_of state a) _ (join_count laws program used (needs program offer) a) (none a) (within a) (within' a)
+facts_there laws program state used offer within within' none a = grind (arith, facts_within, join_count, program.signature)
 
 pub each_admitted : (P : Offer → Type 0) (offers : List Offer) (flags : List Bool) → AllByRecursion P offers → AllByRecursion P (admitted offers flags)
 each_admitted P [] flags all = tt
@@ -92,5 +91,4 @@ copies_more : (t : Bool) (u n state count : ℕ) → t ≡ false → count ≡ h
 copies_more t u n state count linear e within few = grind arith
 
 pub copies_there : BagLaws → (program : Parts) (state used : Multiset) (offer : Offer) (a : AtomTree) → is_fact program.signature a ≡ false → count_of state a < count_of used a + count_of (needs program offer) a → ¬ IsContained (joined program.signature used (needs program offer)) state
-copies_there laws program state used offer a linear few = λ within.
-    copies_more (is_fact program.signature a) (count_of used a) (count_of (needs program offer) a) (count_of state a) _ linear (join_count laws program used (needs program offer) a) (within a) few
+copies_there laws program state used offer a linear few = grind (arith, join_count, program.signature)

@@ -9,7 +9,6 @@ use Rattle.cep_term.specs.Tree.{AtomTree, IsGroundAtom}
 use Rattle.cep_term.specs.Multiset.{Multiset, gathered, difference_of, copies_in, IsContained, IsBag}
 use Rattle.cep_rule.specs.declared.parts.Parts.{Parts}
 use Rattle.cep_rule.specs.declared.offer.Offer.{Offer}
-use Rattle.cep_rule.specs.Typing.{is_fact}
 use Rattle.cep_rule.specs.State.{joined}
 use Rattle.cep_rule.specs.Offers.{Applies}
 use Rattle.cep_rule.specs.Program.{IsTypedRule, IsProgram}
@@ -83,12 +82,7 @@ module _ (laws : RoundLaws) (program : Parts) (kept : IsProgram program) where
 
       module _ (parts : Parts) (new : Multiset) (parts_are : parts ≡ program) (new_is : new ≡ joined parts.signature (difference_of state (joined parts.signature finite.empty (gathered needed))) (gathered given)) where
         pub new_bag : IsBag new
-        new_bag =
-            rw new_is (laws.bags.once_kept (is_fact parts.signature) _
-            (laws.bags.sum_kept (difference_of state (joined parts.signature finite.empty (gathered needed))) (gathered given)
-            (laws.bags.difference_kept state (joined parts.signature finite.empty (gathered needed)) are_chosen.is_state.bag
-            (laws.bags.once_kept (is_fact parts.signature) _ (laws.bags.sum_kept finite.empty (gathered needed) laws.bags.empty_kept (laws.bags.gathered_kept needed needed_are_ground))))
-            (laws.bags.gathered_kept given given_are_ground)))
+        new_bag = grind (arith, needed_are_ground, given_are_ground, laws.bags.once_kept, parts.signature, laws.bags.sum_kept, laws.bags.difference_kept, are_chosen.is_state.bag, laws.bags.empty_kept, laws.bags.gathered_kept)
 
         pub leads_together : IsContained (all_need program done) state → Together program done state new
         leads_together contained =

@@ -1,5 +1,5 @@
 -- Offers that are done one after another are steps of the machine.
-use Rattle.std.proofs.Common.{◌≡◌, inl, ℕ, ◌*◌, ◌%◌, List, [], ◌∷◌, Option, Some, None, IsSome, is_some, unwrap_or, ◌↔◌, refl, sym, ap, subst, ◌∙◌, arith}
+use Rattle.std.proofs.Common.{◌≡◌, inl, ℕ, ◌%◌, List, [], ◌∷◌, IsSome, ◌↔◌, refl, sym, ap, subst, ◌∙◌, arith}
 use Rattle.std.specs.Prelude.{IfSome}
 use Rattle.std.specs.List.{AllByRecursion}
 use Rattle.cep_base.proofs.Lists.{holds_at, some_same}
@@ -24,14 +24,7 @@ derivations program height (a ∷ atoms) all =
 
 -- a rule of a stage's own group leaves no stage
 stays_in_stage : (rule : Rule) (stage : ℕ) → rule.group ≡ own_group stage → IsSome rule.next ↔ (rule.group % 2 ≡ 1) → stage ≡ stage_after rule stage
-stays_in_stage rule stage grouped leaves = by rule.next refl
-  where
-    even : (n : ℕ) → n ≡ 2 * stage → n % 2 ≡ 1 → ⊥
-    even n is odd = omega arith
-
-    by : (o : Option ℕ) → rule.next ≡ o → stage ≡ unwrap_or o stage
-    by None e = refl
-    by (Some k) e = absurd (even rule.group grouped (leaves.0 (ap (λ o. is_some o) e)))
+stays_in_stage rule stage grouped leaves = grind (arith, rule.next, rule.group, leaves.0)
 
 pub machine_steps : (program : Parts) (kept : IsProgram program) (height stage : ℕ) (order : List Offer) (state last : Multiset) → AllByRecursion (IsInGroup program (own_group stage)) order → AllByRecursion (MakesFitAtoms program) order → FitOnTheWay program height state order → AreOffersDone program height state order last → AreMachineSteps program height stage state order last
 machine_steps program kept height stage [] state last grouped fit fits done = done

@@ -152,23 +152,13 @@ module _ (laws : RoundLaws) (program : Parts) where
       need_stays a is some = rw gives_right (given_too self.applies.rule offer.values a is (rw (← needs_left) some))
 
       parts : (offers : List Offer) (a : AtomTree) → IsContained (all_need program (offer ∷ offers)) old → held (fact a) (count_of (needs program offer) a + count_all laws.bags program needs a offers) ≤ count_of old a
-      parts offers a contained =
-          subst (λ n. held (fact a) n ≤ count_of old a) (sum_by-cons (λ (o : Offer). count_of (needs program o) a) offer offers)
-          (subst (λ n. n ≤ count_of old a) (all_count laws.bags program needs (offer ∷ offers) a) (contained a))
+      parts offers a contained = grind (arith, sum_by-cons, all_count, laws.bags)
 
       still_there : (offers : List Offer) → IsContained (all_need program (offer ∷ offers)) old → IsContained (all_need program offers) new
-      still_there offers contained a =
-          subst (λ n. n ≤ count_of new a) (sym (all_count laws.bags program needs offers a))
-          (rest_there (fact a) (count_of (needs program offer) a) (count_of (gives program offer) a) (count_all laws.bags program needs a offers) (count_of old a) (count_of new a)
-          (need_stays a) (parts offers a contained) (new_count a))
+      still_there offers contained a = grind (arith, all_count, rest_there, count_all, need_stays, parts, new_count, laws.bags)
 
     left_there : (offer : Offer) (offers : List Offer) (rule : Rule) → slice_get program.rules offer.rule ≡ Some rule → (state : Multiset) → IsContained (all_need program (offer ∷ offers)) state → IsContained (left_of program.signature rule offer.values) state
-    left_there offer offers rule numbered state contained =
-        subst (λ (bag : Multiset). IsContained bag state) (needs_is program offer rule numbered)
-        (λ a. first_there (fact a) (count_of (needs program offer) a) (count_all laws.bags program needs a offers) (count_of state a)
-        (λ is. subst (λ (bag : Multiset). count_of bag a ≤ 1) (sym (needs_is program offer rule numbered)) (left_once rule offer.values a is))
-        (subst (λ n. held (fact a) n ≤ count_of state a) (sum_by-cons (λ (o : Offer). count_of (needs program o) a) offer offers)
-        (subst (λ n. n ≤ count_of state a) (all_count laws.bags program needs (offer ∷ offers) a) (contained a))))
+    left_there offer offers rule numbered state contained = grind (arith, needs_is, count_all, left_once, sum_by-cons, all_count, laws.bags, offer.values)
 
     -- all can be done, one after another
     pub can_be_done : (height : ℕ) (order : List Offer) (state : Multiset) → IsState program.signature state → AllByRecursion (IsReady height) order → IsContained (all_need program order) state → (last : Multiset) × AreOffersDone program height state order last
@@ -219,10 +209,7 @@ module _ (laws : RoundLaws) (program : Parts) where
 
     -- and what was done one after another is what is done together
     pub is_together : (height : ℕ) (order : List Offer) (state last : Multiset) → IsOnce fact state → IsContained (all_need program order) state → AreOffersDone program height state order last → Together program order state last
-    is_together height [] state last once contained done = record {
-      contained = contained;
-      counts = λ a. rw (done, laws.bags.empty a) (held_same (fact a) (count_of state a) (once a));
-    }
+    is_together height [] state last once contained done = grind (arith, held_same, laws.bags.empty)
     is_together height (offer ∷ order) state last once contained done =
         let next = done.0 in
         let self : IsOfferDone program height state next offer = done.1 in
@@ -242,19 +229,13 @@ module _ (laws : RoundLaws) (program : Parts) where
 
   -- the order does not matter to the sums
   pub same_all : (side : Parts → Offer → Multiset) (offers order : List Offer) → IsPermutation offers order → (a : AtomTree) → count_of (sum_of_sides side program order) a ≡ count_of (sum_of_sides side program offers) a
-  same_all side offers order same a =
-      all_count laws.bags program side order a
-      ∙ ap (held (fact a)) (sum_by-IsPermutation (λ (o : Offer). count_of (side program o) a) offers order same)
-      ∙ sym (all_count laws.bags program side offers a)
+  same_all side offers order same a = grind (arith, all_count, sum_by-IsPermutation, laws.bags)
 
   pub all_in_order : (P : Offer → Type 0) (offers order : List Offer) → IsPermutation offers order → AllByRecursion P offers → AllByRecursion P order
   all_in_order P offers order same all = all_of P order (λ x there. all_at P offers x all (Contains-permutation order offers x (IsPermutation-sym offers order same) there))
 
   pub together_anyway : (offers order : List Offer) (state last : Multiset) → IsPermutation offers order → Together program order state last → Together program offers state last
-  together_anyway offers order state last same together = record {
-    contained = λ a. subst (λ n. n ≤ count_of state a) (same_all needs offers order same a) (together.contained a);
-    counts = λ a. together.counts a ∙ (λ i. held (fact a) (count_of state a - same_all needs offers order same a i + same_all gives offers order same a i));
-  }
+  together_anyway offers order state last same together = grind (arith, same_all, together.contained)
 
   pub contained_anyway : (offers order : List Offer) (state : Multiset) → IsPermutation offers order → IsContained (all_need program offers) state → IsContained (all_need program order) state
   contained_anyway offers order state same contained a = subst (λ n. n ≤ count_of state a) (sym (same_all needs offers order same a)) (contained a)

@@ -48,9 +48,7 @@ module _ (laws : RoundLaws) (program : Parts) (kept : IsProgram program) (offer 
   stay_typed = all_kept (IsTyped program.signature rule.kinds) (λ premise. premise.kept || is_fact program.signature premise.atom) rule.premises typed.premises
 
   in_range : (atoms : List AtomTree) → AllByRecursion (IsTyped program.signature rule.kinds) atoms → AllByRecursion (IsAtomInRange (length offer.values)) atoms
-  in_range atoms all =
-      rw (laws.types.as_many program.signature.cons rule.kinds offer.values is.values)
-      (all_weaker (IsTyped program.signature rule.kinds) (IsAtomInRange (length rule.kinds)) atoms (laws.types.in_range program.signature rule.kinds) all)
+  in_range atoms all = grind (arith, all_weaker, laws.types.as_many, program.signature.cons, offer.values, is.values, program.signature, laws.types.in_range)
 
   ground : (atoms : List AtomTree) → AllByRecursion (IsTyped program.signature rule.kinds) atoms → AllByRecursion IsGroundAtom (full_instances offer.values atoms)
   ground atoms all = all_mapped (IsTyped program.signature rule.kinds) IsGroundAtom (full_instance offer.values) atoms (λ a. laws.types.ground program.signature rule.kinds offer.values a is.values) all
@@ -106,13 +104,8 @@ module _ (laws : RoundLaws) (program : Parts) where
       → ((offer : Offer) → IsOfProgram program offer → (a : AtomTree) → count_of (side program offer) a ≡ held (is_fact program.signature a) (count_of (gathered (atoms_by program offer)) a))
       → (offers : List Offer) → AllByRecursion (IsOfProgram program) offers → (a : AtomTree)
       → count_of (sum_of_sides side program offers) a ≡ held (is_fact program.signature a) (count_of (gathered (flat_map (atoms_by program) offers)) a)
-  all_gathered side atoms_by same [] are a = rw laws.bags.empty (none (is_fact program.signature a))
-    where
-      none : (t : Bool) → 0 ≡ held t 0
-      none t = grind arith
-  all_gathered side atoms_by same (offer ∷ offers) are a =
-      rw (join_count laws.bags program (side program offer) (sum_of_sides side program offers) a, laws.bags.joined_count (atoms_by program offer) (flat_map (atoms_by program) offers) a)
-      (both_held (is_fact program.signature a) _ _ _ _ (same offer are.0 a) (all_gathered side atoms_by same offers are.1 a))
+  all_gathered side atoms_by same [] are a = grind (arith, laws.bags.empty, program.signature)
+  all_gathered side atoms_by same (offer ∷ offers) are a = grind (arith, join_count, both_held, same, laws.bags, laws.bags.joined_count, program.signature, are.0, are.1, all_gathered side atoms_by same offers are.1 a)
 
 -- lists that stand one behind the other are as long as so many of the longest
 pub flat_few : {A B : Type 0} (f : A → List B) (P : A → Type 0) (most : ℕ) (xs : List A) → ((x : A) → P x → length (f x) ≤ most) → AllByRecursion P xs → length (flat_map f xs) ≤ most * length xs
