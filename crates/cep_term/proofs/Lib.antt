@@ -4,6 +4,7 @@ pub mod MatchingSteps
 pub mod MatchingLaws
 pub mod Edits
 pub mod EntryEdits
+pub mod BlockEdits
 pub mod Seen
 pub mod Multisets
 pub mod Additions

@@ -1,17 +1,14 @@
 -- What the entries of a bag say of the multiset that they stand for.
-use Rattle.std.proofs.Common.{◌≡◌, ℕ, zero, suc, ◌+◌, ◌-◌, ◌<◌, ◌≤◌, Bool, true, false, ◌==◌, List, [], ◌∷◌, length, map, get_or, Some, unwrap_or, ◌↔◌, refl, sym, ap, subst, ◌∙◌, arith}
-use Rattle.std.specs.Prelude.{slice_get}
+use Rattle.std.proofs.Common.{◌≡◌, ℕ, zero, suc, ◌+◌, ◌-◌, ◌<◌, ◌≤◌, Bool, true, false, ◌==◌, List, [], ◌∷◌, length, take, unwrap_or, ◌↔◌, refl, sym, ap, subst, ◌∙◌, arith}
 use Rattle.std.proofs.lemmas.Bool.{eqb-true, eq-eqb}
+use Rattle.std.proofs.lemmas.List.{take_all}
 use Rattle.std.specs.List.{AllByRecursion}
-use Rattle.std.proofs.lemmas.Option.{slice_get-map, slice_get-get_or}
-use Rattle.std.specs.Cmp.{tied_itself}
 use Rattle.std.specs.FinMap as finite
-use Rattle.cep_base.proofs.SortedEntries.{below_rest, rest_sorted, find_below}
 use Rattle.cep_term.specs.Tree.{AtomTree, IsGroundAtom}
 use Rattle.cep_term.specs.Order.{atom_cmp}
 use Rattle.cep_term.specs.Multiset.{Multiset, count_of, with_count, copies_in, IsContained, IsBag, IsEntry}
 use Rattle.cep_term.specs.Entries.{IsRising, AreKept, find_count, set_among}
-use Rattle.cep_term.proofs.OrderLaws.{atom_cmp_total, atom_cmp_ties}
+use Rattle.cep_term.proofs.OrderLaws.{atom_cmp_ties}
 use Rattle.cep_term.proofs.Edits.{Counted, total, total-cons, total_set, rising_set, each_set, bag_set, entries_rising, get_rising}
 
 module _ (es : List Counted) (bag : Multiset) (rising : IsRising es) (seen : finite.from_sorted es ≡ bag) where
@@ -33,9 +30,6 @@ module _ (es : List Counted) (bag : Multiset) (rising : IsRising es) (seen : fin
   -- an edit of the entries, seen as one of the multiset
   pub set_seen : (a : AtomTree) (n m : ℕ) (edited : List Counted) → edited ≡ set_among es a n → n ≡ m → finite.from_sorted edited ≡ with_count bag a m
   set_seen a n m edited is same = ap (λ z. finite.from_sorted z) is ∙ bag_set es a n rising ∙ ap (λ z. with_count z a n) seen ∙ ap (with_count bag a) same
-
-  pub get_seen : {E : Type 0} (f : E → Counted) (xs : List E) (i : ℕ) (x : E) → es ≡ map f xs → i < length xs → x ≡ get_or xs i x → slice_get (finite.entries bag) i ≡ Some (f x)
-  get_seen f xs i x is lt at = rw (entries_seen, is, slice_get-map f xs i, slice_get-get_or xs i x lt, ← at) refl
 
 -- what always holds of the entries holds after an edit, where the copies are counted along
 pub kept_set : (es edited : List Counted) (a : AtomTree) (n copies new : ℕ) → AreKept es copies → IsGroundAtom a → edited ≡ set_among es a n → new + find_count es a ≡ copies + n → AreKept edited new
@@ -65,34 +59,16 @@ empty_seen_back es bag n result rising seen is e =
       λ empty. e ∙ eq-eqb n 0 (is ∙ long ∙ ap (λ z. finite.len z) empty ∙ finite.len-empty atom_cmp ℕ),
     )
 
--- what holds of each entry, at one of them
-pub all_at : {E : Type 0} (P : Counted → Type 0) (f : E → Counted) (xs : List E) (i : ℕ) (x : E) → AllByRecursion P (map f xs) → i < length xs → x ≡ get_or xs i x → P (f x)
-all_at P f [] i x all lt is = absurd (omega arith)
-all_at P f (y ∷ xs) zero x all lt is = subst (λ z. P (f z)) (sym is) all.0
-all_at P f (y ∷ xs) (suc i) x all lt is = all_at P f xs i x all.1 (omega arith) is
-
 -- the counts of a list are at most others where each entry's is
 counts_from_entries : (others : List Counted) (count : AtomTree → ℕ) (a : AtomTree) → AllByRecursion (λ e. e.1 ≤ count e.0) others → find_count others a ≤ count a
 counts_from_entries [] count a all = omega arith
 counts_from_entries (e ∷ others) count a all = grind (arith, counts_from_entries others count a all.1, atom_cmp_ties a e.0)
 
--- a longer list has each count of the rest, or more
-rest_counts : (e : Counted) (others : List Counted) (a : AtomTree) → IsRising (e ∷ others) → find_count others a ≤ find_count (e ∷ others) a
-rest_counts e others a rising = grind (arith, atom_cmp_ties a e.0, below_rest atom_cmp e others rising, find_below atom_cmp a others)
-
-entries_from_counts : (others : List Counted) (count : AtomTree → ℕ) → IsRising others → ((a : AtomTree) → find_count others a ≤ count a) → AllByRecursion (λ e. e.1 ≤ count e.0) others
-entries_from_counts [] count rising all = tt
-entries_from_counts (e ∷ others) count rising all =
-    let first : find_count (e ∷ others) e.0 ≡ e.1 = grind (arith, tied_itself atom_cmp_total e.0) in
-    (omega (arith, all e.0, first), entries_from_counts others count (rest_sorted atom_cmp e others rising) (λ a. omega (arith, rest_counts e others a rising, all a)))
-
--- so one bag is contained in another exactly where the other's entries have no greater count
-pub contained_seen : (result : Bool) (es others : List Counted) (bag other : Multiset) → IsRising es → IsRising others → finite.from_sorted es ≡ bag → finite.from_sorted others ≡ other
-    → (result ≡ true) ↔ AllByRecursion (λ e. e.1 ≤ find_count es e.0) others → (result ≡ true) ↔ IsContained other bag
-contained_seen result es others bag other rising others_rising seen other_seen is = (
-  λ yes a. let h = counts_from_entries others (find_count es) a (is.0 yes) in omega (arith, count_seen es bag rising seen a, count_seen others other others_rising other_seen a),
-  λ contained. is.1 (entries_from_counts others (find_count es) others_rising (λ a. let h = contained a in omega (arith, count_seen es bag rising seen a, count_seen others other others_rising other_seen a))),
-)
+-- so one bag is contained in another if no entry of it has a greater count
+pub contained_all : (bag other : Multiset) (n : ℕ) → finite.len other ≤ n → AllByRecursion (λ e. e.1 ≤ count_of bag e.0) (take n (finite.entries other)) → IsContained other bag
+contained_all bag other n most all a =
+    let whole = take_all n (finite.entries other) (subst (λ m. m ≤ n) (finite.len-entries other) most) in
+    rw (finite.get-entries other a) (counts_from_entries (finite.entries other) (count_of bag) a (rw whole at all))
 
 -- where a copy was not missing, there is one
 some_copy_there : (n : ℕ) → (false ≡ true) ↔ (n ≡ 0) → 0 < n
@@ -103,6 +79,14 @@ some_copy_there (suc n) is = omega arith
 pub count_le_total : (es : List Counted) (a : AtomTree) → find_count es a ≤ total es
 count_le_total [] a = omega arith
 count_le_total (e ∷ es) a = grind (arith, total-cons e es, count_le_total es a)
+
+-- there are at least as many copies as entries
+pub few_entries : (es : List Counted) (copies : ℕ) → AreKept es copies → length es ≤ copies
+few_entries es copies kept = omega (arith, at_most es kept.each, kept.counted)
+  where
+    at_most : (es : List Counted) → AllByRecursion IsEntry es → length es ≤ total es
+    at_most [] each = omega arith
+    at_most (e ∷ es) each = omega (arith, at_most es each.1, each.0.0, total-cons e es)
 
 pub some_copy : (es : List Counted) (a : AtomTree) (copies : ℕ) → AreKept es copies → (false ≡ true) ↔ (find_count es a ≡ 0) → 1 ≤ copies
 some_copy es a copies kept is = omega (arith, some_copy_there (find_count es a) is, count_le_total es a, kept.counted)

@@ -1,9 +1,13 @@
--- Lists of entries, each an atom with its count, on which a bag stands: what they stand for, their edits, and the places of atoms among them.
-use Rattle.std.specs.Prelude.{◌≡◌, ℕ, ◌+◌, ◌-◌, ◌≤◌, ◌==◌, if◌then◌else◌, List, map, sum_by, unwrap_or, true, not}
-use Rattle.std.specs.List.{AllByRecursion}
-use Rattle.std.specs.Ordering.{eq_by_cmp}
+-- Lists of entries, each an atom with its count, in blocks, on which a bag stands: what they stand for, their edits, and the places of atoms among them.
+use Rattle.std.specs.Prelude.{◌≡◌, ℕ, zero, suc, ◌+◌, ◌-◌, ◌<◌, ◌==◌, if◌then◌else◌, Bool, List, [], ◌∷◌, length, map, sum_by, unwrap_or, true, false, not}
+use Rattle.std.specs.List.{AllByRecursion, flat_map}
+use Rattle.std.specs.List.Sorted.{IsPartitionPoint}
+use Rattle.std.specs.Ordering.{is_le, eq_by_cmp}
+use Rattle.std.specs.declared.cmp.Ordering.TheVariants.{Less}
+use Rattle.std.specs.declared.alloc.Global.{Global}
+use Rattle.std.specs.declared.vec.Vec.{Vec}
 use Rattle.std.specs.FinMap as finite
-use Rattle.std.specs.FinMap.Entries.{put, where_key}
+use Rattle.std.specs.FinMap.Entries.{put, where_key, below_all}
 use Rattle.cep_base.specs.Sorted.{IsPlaceOf, IsGapOf}
 use Rattle.cep_term.specs.declared.entries.Entry.{Entry}
 use Rattle.cep_term.specs.Tree.{AtomTree, atom_of}
@@ -18,9 +22,17 @@ entry_of e = (atom_of e.atom.value, e.count)
 abbrev pub entries_of : List Entry → List (AtomTree × ℕ)
 entries_of entries = map entry_of entries
 
--- the multiset of a list of entries with increasing atoms
-abbrev pub bag_of : List Entry → Multiset
-bag_of entries = finite.from_sorted (entries_of entries)
+-- a block of them
+abbrev pub Block : Type 0
+Block = Vec Entry Global
+
+-- the entries of blocks, one block after another
+abbrev pub joined : List Block → List (AtomTree × ℕ)
+joined blocks = flat_map (λ block. entries_of block.items) blocks
+
+-- the multiset of blocks of entries with increasing atoms
+abbrev pub bag_of : List Block → Multiset
+bag_of blocks = finite.from_sorted (joined blocks)
 
 -- The entries' atoms are strictly increasing.
 abbrev pub IsRising : List (AtomTree × ℕ) → Type 0
@@ -41,15 +53,39 @@ one_more_among entries a = set_among entries a (find_count entries a + 1)
 abbrev pub one_less_among : List (AtomTree × ℕ) → AtomTree → List (AtomTree × ℕ)
 one_less_among entries a = set_among entries a (find_count entries a - 1)
 
--- No count of few is greater than the atom's count among many.
-abbrev pub AreCovered : List (AtomTree × ℕ) → List (AtomTree × ℕ) → Type 0
-AreCovered few many = AllByRecursion (λ e. e.1 ≤ find_count many e.0) few
-
 -- What holds of the entries of a bag: their atoms increase, each is of a ground atom and has a copy, and the copies are as many as this.
 pub record AreKept (entries : List (AtomTree × ℕ)) (copies : ℕ) : Type 0 where
   pub rising : IsRising entries
   pub each : AllByRecursion IsEntry entries
   pub counted : sum_by (λ e. e.1) entries ≡ copies
+
+-- Each block has an entry.
+abbrev pub AreFilled : List Block → Type 0
+AreFilled blocks = AllByRecursion (λ block. 0 < length (entries_of block.items)) blocks
+
+-- What holds of the blocks of a bag: none is empty, and all of their entries are kept.
+pub record AreBlocksOf (blocks : List Block) (copies : ℕ) : Type 0 where
+  pub filled : AreFilled blocks
+  pub kept : AreKept (joined blocks) copies
+
+-- All atoms of these entries are less than this one.
+abbrev pub AreBefore : List (AtomTree × ℕ) → AtomTree → Type 0
+AreBefore entries a = AllByRecursion (λ e. atom_cmp e.0 a ≡ Less) entries
+
+-- The atom's entry is in the block at this place or would go there: the atoms of those before are less, and of those after greater.
+abbrev pub IsBlockFor : List Block → AtomTree → ℕ → Type 0
+IsBlockFor [] a i = ⊥
+IsBlockFor (block ∷ blocks) a zero = below_all atom_cmp a (joined blocks) ≡ true
+IsBlockFor (block ∷ blocks) a (suc i) = AreBefore (entries_of block.items) a × IsBlockFor blocks a i
+
+-- whether the first of these entries is of the atom or of a lesser one
+abbrev pub is_begun : List (AtomTree × ℕ) → AtomTree → Bool
+is_begun [] a = false
+is_begun (e ∷ entries) a = is_le (atom_cmp e.0 a)
+
+-- The first so many blocks begin so, and no others.
+abbrev pub IsBegunTo : List Block → AtomTree → ℕ → Type 0
+IsBegunTo blocks a = IsPartitionPoint (λ block. is_begun (entries_of block.items) a ≡ true) (λ block. is_begun (entries_of block.items) a ≡ false) blocks
 
 -- The entry at this place is the atom's; and the atom has no entry and would go here.
 abbrev pub IsAt : List (AtomTree × ℕ) → AtomTree → ℕ → Type 0

@@ -5,18 +5,20 @@ ghost use Rattle.cep_term.specs.Tree.{atom_of, IsGroundAtom};
 ghost use Rattle.cep_term.specs.Multiset.{count_of, with_count, with_one, without_one, gathered, sum_of, difference_of, copies_in, IsContained, IsBag, AddsFront};
 
 use crate::atoms::AtomList;
-use crate::entries::{Entry, Missing, add_copy, copy_entries, count_among, covers, take_copy};
+use crate::blocks;
+use crate::entries::{Entry, Missing};
 use crate::term::Atom;
 use std::alloc::{AllocError, Global};
 use std::marker::Model;
 
 /// A multiset of ground atoms, as Ceptre's states are. The entries stand in the order of their
-/// atoms, so an atom is found by halving. That an atom has fewer than 2^32 copies, and all atoms
-/// fewer than 2^64, is this profile's.
+/// atoms, so an atom is found by halving, and in blocks, so that what moves if one comes or goes
+/// does not grow with the bag. That an atom has fewer than 2^32 copies, and all atoms fewer than
+/// 2^64, is this profile's.
 #[derive(Drop)]
 pub struct Bag {
     alloc: Global,
-    entries: Vec<Entry>,
+    blocks: Vec<Vec<Entry>>,
     copies: u64,
 }
 
@@ -25,15 +27,15 @@ impl Model for Bag {
     ghost use Rattle.std.specs.FinMap as finite;
     ghost use Rattle.cep_term.specs.Codes.{atom_code};
     ghost use Rattle.cep_term.specs.Multiset.{Multiset};
-    ghost use Rattle.cep_term.specs.Entries.{bag_of, entries_of, AreKept};
+    ghost use Rattle.cep_term.specs.Entries.{bag_of, AreBlocksOf};
 
     ghost Value = { Multiset };
 
     ghost coded = { finite.code atom_code coded_ℕ };
 
-    ghost view = { λ bag. bag_of bag.entries.items };
+    ghost view = { λ bag. bag_of bag.blocks.items };
 
-    ghost invariant = { λ bag. AreKept (entries_of bag.entries.items) bag.copies };
+    ghost invariant = { λ bag. AreBlocksOf bag.blocks.items bag.copies };
 }
 
 impl Bag {
@@ -43,7 +45,7 @@ impl Bag {
     {
         Bag {
             alloc,
-            entries: Vec::new(alloc),
+            blocks: Vec::new(alloc),
             copies: 0,
         }
     }
@@ -63,7 +65,7 @@ impl Bag {
     pub fn count(&self, a: &Atom) -> u32
         ensures { result ≡ count_of self.now (atom_of a.now) }
     {
-        count_among(&self.entries, a)
+        blocks::count(&self.blocks, a)
     }
 
     /// Adds one copy of a ground atom. After out of memory the bag is as before.
@@ -74,7 +76,7 @@ impl Bag {
         ensures ok { OnOk result (self.new ≡ with_one self.old (atom_of a.now)) }
         ensures err { OnErr result (self.new ≡ self.old) }
     {
-        add_copy(self.alloc, &mut self.entries, a)?;
+        blocks::add(self.alloc, &mut self.blocks, a)?;
         self.copies += 1;
         Ok(())
     }
@@ -101,7 +103,7 @@ impl Bag {
         ensures ok { OnOk result (self.new ≡ without_one self.old (atom_of a.now)) }
         ensures err { OnErr result (self.new ≡ self.old) }
     {
-        match take_copy(&mut self.entries, a) {
+        match blocks::take(&mut self.blocks, a) {
             Ok(()) => {
                 self.copies -= 1;
                 Ok(())
@@ -144,7 +146,13 @@ impl Bag {
     pub fn contains(&self, other: &Bag) -> bool
         ensures { IsTrue result ↔ IsContained other.now self.now }
     {
-        covers(&self.entries, &other.entries)
+        for i in 0..other.len() {
+            let (atom, copies) = other.entry(i);
+            if self.count(atom) < copies {
+                return false;
+            }
+        }
+        true
     }
 
     /// The number of copies of all atoms. It takes no memory.
@@ -161,7 +169,7 @@ impl Bag {
     {
         Ok(Bag {
             alloc,
-            entries: copy_entries(alloc, &self.entries)?,
+            blocks: blocks::copy(alloc, &self.blocks)?,
             copies: self.copies,
         })
     }
@@ -171,14 +179,16 @@ impl Bag {
         ensures value { result ≡ finite.len self.now }
         ensures kept { IsBag self.now }
     {
-        self.entries.len()
+        // there are no more entries than copies, so their number fits
+        let _ = self.copies();
+        blocks::len(&self.blocks)
     }
 
     /// Whether there is no atom.
     pub fn is_empty(&self) -> bool
         ensures { IsTrue result ↔ (self.now ≡ finite.empty) }
     {
-        self.entries.is_empty()
+        self.blocks.is_empty()
     }
 
     /// The i-th atom in the order of atoms, counted from 0, with the number of its copies.
@@ -186,7 +196,7 @@ impl Bag {
         requires { i < finite.len self.now }
         ensures { slice_get (finite.entries self.now) i ≡ Some (atom_of result.0.now, result.1) }
     {
-        let entry = &self.entries[i];
+        let entry = blocks::entry(&self.blocks, i);
         (&entry.atom, entry.count)
     }
 }

@@ -1,9 +1,9 @@
-// Lists of entries with increasing atoms.
+// One list of entries with increasing atoms.
 ghost use Rattle.std.specs.Prelude.{◌≡◌, ◌-◌, ◌^◌, ◌<◌, ◌≤◌, ◌↔◌, length, IfOk, IfErr, OnOk, OnErr, IsErr, IsTrue};
 ghost use Rattle.std.specs.List.{AllByRecursion};
 ghost use Rattle.cep_term.specs.Tree.{atom_of};
 ghost use Rattle.cep_term.specs.Multiset.{IsEntry};
-ghost use Rattle.cep_term.specs.Entries.{entries_of, IsRising, AreCovered, find_count, one_more_among, one_less_among};
+ghost use Rattle.cep_term.specs.Entries.{entries_of, IsRising, find_count, one_more_among, one_less_among};
 ghost use Rattle.cep_term.specs.Entries.{IsAt, IsGapFor};
 
 use crate::comparing::order;
@@ -31,7 +31,24 @@ pub fn place(entries: &[Entry], a: &Atom) -> Result<usize, usize>
     ensures found_in_range { IfOk result (λ at. at < length entries.now) }
     ensures absent_in_range { IfErr result (λ at. at ≤ length entries.now) }
 {
-    entries.binary_search_by(|entry| order(&entry.atom, a))
+    if goes_last(entries, a) {
+        Err(entries.len())
+    } else {
+        entries.binary_search_by(|entry| order(&entry.atom, a))
+    }
+}
+
+// Whether all of the entries are of lesser atoms, as the last one tells. Of atoms that come in
+// order one comparison tells it.
+fn goes_last(entries: &[Entry], a: &Atom) -> bool
+    requires { IsRising (entries_of entries.now) }
+    ensures { IsTrue result
+        → IsGapFor (entries_of entries.now) (atom_of a.now) (length entries.now) }
+{
+    if entries.is_empty() {
+        return true;
+    }
+    order(&entries[entries.len() - 1].atom, a).is_lt()
 }
 
 // How many copies of the atom there are.
@@ -54,6 +71,7 @@ pub fn add_copy(alloc: Global, entries: &mut Vec<Entry>, a: &Atom) -> Result<(),
     ensures ok { OnOk result (entries_of entries.new.items
         ≡ one_more_among (entries_of entries.old.items) (atom_of a.now)) }
     ensures err { OnErr result (entries_of entries.new.items ≡ entries_of entries.old.items) }
+    ensures as_many { length entries.old.items ≤ length entries.new.items }
 {
     match place(entries, a) {
         Ok(at) => {
@@ -90,19 +108,6 @@ pub fn take_copy(entries: &mut Vec<Entry>, a: &Atom) -> Result<(), Missing>
         }
         Err(_) => Err(Missing),
     }
-}
-
-// Whether no count of the others is greater than the count of the same atom here.
-pub fn covers(entries: &[Entry], others: &[Entry]) -> bool
-    requires { IsRising (entries_of entries.now) }
-    ensures { IsTrue result ↔ AreCovered (entries_of others.now) (entries_of entries.now) }
-{
-    for other in others {
-        if count_among(entries, &other.atom) < other.count {
-            return false;
-        }
-    }
-    true
 }
 
 // Entries of the same atoms with the same counts.

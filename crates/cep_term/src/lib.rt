@@ -10,6 +10,7 @@
 mod atoms;
 mod bag;
 mod binding;
+mod blocks;
 mod comparing;
 mod copying;
 mod entries;

@@ -8,8 +8,8 @@ use Rattle.cep_term.proofs.OrderLaws.{atom_cmp_total, atom_cmp_ties}
 use Rattle.cep_term.proofs.entries.place.Goals as goal
 
 -- the closure compares an entry's atom with the one that is sought, and changes nothing
-pub returns : goal.returns
-returns c =
+pub returns-else-goes_last : goal.returns-else-goes_last
+returns-else-goes_last c =
     let facts = c.binary_search_by.ensures in
     let atom = atom_of c.args.a.now in
     let entries = c.args.entries.now in

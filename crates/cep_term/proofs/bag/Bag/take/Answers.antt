@@ -7,7 +7,7 @@ pub overflow_sub-self : goal.overflow_sub-self
 overflow_sub-self c = grind (arith, some_copy)
 
 pub invariant_of-self : goal.invariant_of-self
-invariant_of-self c = kept_taken _ _ (atom_of c.args.a.now) c.self.inside.copies c.self.invariant c.in-Ok.ensures.missing c.in-Ok.ensures.ok
+invariant_of-self c = record { filled = c.in-Ok.ensures.filled; kept = kept_taken _ _ (atom_of c.args.a.now) c.self.inside.copies c.self.invariant.kept c.in-Ok.ensures.missing c.in-Ok.ensures.ok }
 
 pub returns-in-Ok-clause-missing : goal.returns-in-Ok-clause-missing
 returns-in-Ok-clause-missing c = grind (arith, count_seen)
