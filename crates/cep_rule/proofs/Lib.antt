@@ -11,3 +11,4 @@ pub mod SideLaws
 pub mod GroundLaws
 pub mod Telling
 pub mod Gains
+pub mod HeadSets

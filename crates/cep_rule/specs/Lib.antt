@@ -1,4 +1,6 @@
 pub mod Patterns
+pub mod Heads
+pub mod HeadSet
 pub mod Names
 pub mod Typing
 pub mod Limits
