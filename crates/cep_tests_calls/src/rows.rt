@@ -1,5 +1,6 @@
 // The rows of a column of arity 1.
-ghost use Rattle.std.specs.Prelude.{◌≡◌};
+ghost use Rattle.std.specs.Prelude.{◌≡◌, ◌+◌, ◌-◌, ◌^◌, ◌<◌, ◌≤◌, ℕ, length, IfOk, OnOk};
+ghost use Rattle.cep_column.specs.Rows.{live_count, IsLive, IsInNoRow};
 
 use cep_column::Column;
 use std::alloc::{AllocError, Global};
@@ -42,5 +43,76 @@ fn a_dead_row_is_used_again(rt: HostRuntime) -> Result<(), Fail> {
     let row = column.add(0, &[7])?;
     column.remove(row);
     assert_eq!(rt; column.add(1, &[3])?, row);
+    Ok(())
+}
+
+// The keys below 50 in turn, 60 times.
+fn keys_in_turn(alloc: Global) -> Result<Vec<u64>, AllocError>
+    ensures { IfOk result (λ keys. length keys.items ≡ 3000) }
+{
+    let mut keys = vec![in alloc; 0; 3000]?;
+    for (i, key) in keys.iter_mut().enumerate() {
+        *key = i as u64 % 50;
+    }
+    Ok(keys)
+}
+
+// Adds an atom with each of these keys, numbered from the first one on.
+fn add_all(column: &mut Column, first: u64, keys: &[u64]) -> Result<(), AllocError>
+    requires arity { column.old.arity ≡ 1 }
+    requires fresh { (atom : ℕ) → first ≤ atom → IsInNoRow column.old atom }
+    requires few { live_count column.old + length keys.now < 2 ^ 32 - 1 }
+    requires numbers { first + length keys.now < 2 ^ 64 }
+    ensures arity { OnOk result (column.new.arity ≡ 1) }
+    ensures fresh { OnOk result ((atom : ℕ) → first + length keys.now ≤ atom
+        → IsInNoRow column.new atom) }
+    ensures many { OnOk result (live_count column.new
+        ≡ live_count column.old + length keys.now) }
+    ensures stays { OnOk result ((row : ℕ) → IsLive column.old row → IsLive column.new row) }
+{
+    for (i, key) in keys.iter().enumerate() {
+        column.add(first + i as u64, &[*key])?;
+    }
+    Ok(())
+}
+
+// Removes a row, after which no atom is in a row that was in none.
+fn remove(column: &mut Column, row: u32)
+    requires { IsLive column.old row }
+    ensures arity { column.new.arity ≡ column.old.arity }
+    ensures fresh { (atom : ℕ) → IsInNoRow column.old atom → IsInNoRow column.new atom }
+    ensures one_less { live_count column.old ≡ live_count column.new + 1 }
+{
+    column.remove(row);
+}
+
+// Adds an atom with each of these keys in turn, and removes it again.
+fn add_in_turn(column: &mut Column, atom: u64, keys: &[u64]) -> Result<(), AllocError>
+    requires arity { column.old.arity ≡ 1 }
+    requires fresh { IsInNoRow column.old atom }
+    requires few { live_count column.old < 2 ^ 32 - 1 }
+    ensures arity { OnOk result (column.new.arity ≡ 1) }
+    ensures fresh { OnOk result (IsInNoRow column.new atom) }
+    ensures many { OnOk result (live_count column.new ≡ live_count column.old) }
+{
+    for key in keys {
+        let row = column.add(atom, &[*key])?;
+        column.remove(row);
+    }
+    Ok(())
+}
+
+// Atoms whose keys are met again after 50 rows, more of them than are looked through one by one.
+#[test]
+fn rows_are_found_by_an_index_while_keys_are_replaced(rt: HostRuntime) -> Result<(), Fail> {
+    let keys = keys_in_turn(rt.alloc())?;
+    let mut column = Column::new(rt.alloc(), 1)?;
+    let first = column.add(0, &[7])?;
+    add_all(&mut column, 1, &keys)?;
+    assert_eq!(rt; counts(rt.alloc(), &column)?, [3001, 61, 60]);
+    remove(&mut column, first);
+    add_in_turn(&mut column, 3001, &keys)?;
+    add_in_turn(&mut column, 3001, &[3, 4099])?;
+    assert_eq!(rt; counts(rt.alloc(), &column)?, [3000, 60, 60]);
     Ok(())
 }
