@@ -21,10 +21,19 @@ pub struct Clause {
 }
 
 /// A list of clauses, in which those are found whose heads begin in one way.
-#[derive(Drop)]
 pub struct Clauses {
     clauses: Vec<Clause>,
+    // the predicate of each head, the constructor of its first argument, and the clause's number
     heads: BTreeSet<(u32, Option<u32>, usize)>,
+}
+
+// Written out: what holds clauses drops them by one call.
+impl Drop for Clauses {
+    fn drop(self) {
+        let Clauses { clauses, heads } = self;
+        drop(clauses);
+        drop(heads);
+    }
 }
 
 impl Model for Clauses {
