@@ -1,6 +1,8 @@
 -- The first term of another type is found node by node, atom by atom.
-use Rattle.std.proofs.Common.{◌≡◌, ℕ, ◌+◌, ◌<◌, ◌≤◌, List, [], ◌∷◌, ◌++◌, Option, Some, None, length, drop, get_or, refl, ap, sym, subst, ◌∙◌, append-nil}
-use Rattle.std.specs.List.{flat_map}
+use Rattle.std.proofs.Common.{◌≡◌, ℕ, ◌+◌, ◌<◌, ◌≤◌, List, [], ◌∷◌, ◌++◌, Option, Some, None, false, arith, length, drop, get_or, refl, ap, sym, subst, ◌∙◌, append-nil}
+use Rattle.std.specs.Option.{option_map}
+use Rattle.std.specs.Str.{bytes_eq}
+use Rattle.std.specs.List.{flat_map, find, list_any}
 use Rattle.std.proofs.lemmas.List.{drop_more, drop_all}
 use Rattle.cep_parse.specs.declared.raw.Span.{Span}
 use Rattle.cep_parse.specs.declared.raw.RawKind.{RawKind}
@@ -10,9 +12,10 @@ use Rattle.cep_parse.specs.declared.raw.RawAtom.{RawAtom}
 use Rattle.cep_refusal.specs.declared.fault.Fault.{Fault}
 use Rattle.cep_source.specs.Items.{Source, said}
 use Rattle.cep_refusal.specs.First.{standing, first_of, first_in}
-use Rattle.cep_types.specs.Sites.{Site, sites_from, sites_in, type_of}
+use Rattle.cep_source.specs.Variables.{blanks_behind}
+use Rattle.cep_types.specs.Sites.{Site, Wanted, sites_from, sites_in, wanted_from, node_types, pred_types, type_of}
 use Rattle.cep_types.specs.Clashes.{type_at, clash_if, clash_of, atom_clashes, scope_clashes}
-use Rattle.cep_types.specs.Met.{type_met, AreMet}
+use Rattle.cep_types.specs.Met.{type_met, is_open, AreMet}
 use Rattle.cep_base.proofs.Foremost.{foremost_append, foremost_of_three}
 use Rattle.cep_base.proofs.ForemostLoops.{foremost_parts}
 use Rattle.cep_types.proofs.Meeting.{no_sites}
@@ -67,12 +70,25 @@ module _ (source : Source) (f g : List ℕ → Option (List ℕ)) (same : (name 
 pub scope_found : (source : Source) (atoms : List RawAtom) (variables : Variables) → AreMet source atoms none_met variables → flat_map (atom_clashes source (type_met source variables.firsts)) atoms ≡ scope_clashes source atoms
 scope_found source atoms variables met = clashes_same source (type_met source variables.firsts) (type_of source atoms) (types_met source atoms variables met) atoms
 
--- the same, of one part and of two
-pub found_from : (source : Source) (atoms : List RawAtom) (start variables : Variables) → start ≡ none_met → AreMet source atoms start variables → flat_map (atom_clashes source (type_met source variables.firsts)) atoms ≡ scope_clashes source atoms
-found_from source atoms start variables is met = scope_found source atoms variables (subst (λ (v : Variables). AreMet source atoms v variables) is met)
+-- an atom without variables and blanks has no variables
+none_wanted : (source : Source) (blanks : ℕ) (next : List (List ℕ)) (nodes : List RawNode) → list_any (λ (node : RawNode). is_open node.kind) nodes ≡ false → wanted_from source blanks (sites_from source next nodes) ≡ []
+none_wanted source blanks [] nodes none = refl
+none_wanted source blanks (wants ∷ next) [] none = refl
+none_wanted source blanks (wants ∷ next) (node ∷ nodes) none =
+    grind (arith, none_wanted source (blanks_behind blanks node.kind) (node_types source node.kind node.at ++ next) nodes)
 
+pub one_closed : (source : Source) (atom : RawAtom) (none : Variables) → none ≡ none_met → list_any (λ (node : RawNode). is_open node.kind) atom.nodes ≡ false
+    → atom_clashes source (type_met source none.firsts) atom ≡ scope_clashes source (atom ∷ [])
+one_closed source atom none is closed =
+    sym (append-nil (atom_clashes source (type_met source none.firsts) atom)) ∙ clashes_same source (type_met source none.firsts) (type_of source (atom ∷ [])) same (atom ∷ []) where
+      same : (name : List ℕ) → type_met source none.firsts name ≡ type_of source (atom ∷ []) name
+      same name = ap (λ (v : Variables). type_met source v.firsts name) is
+          ∙ ap (λ ws. option_map (λ (w : Wanted). w.wants) (find (λ (w : Wanted). bytes_eq w.name name) ws))
+          (sym (ap (wanted_from source 0) (append-nil (sites_in source atom)) ∙ none_wanted source 0 (pred_types source (said source atom.name)) atom.nodes closed))
+
+-- the same, of one part and of two
 pub one_found : (source : Source) (atom : RawAtom) (start variables : Variables) → start ≡ none_met → AreMet source (atom ∷ []) start variables → atom_clashes source (type_met source variables.firsts) atom ≡ scope_clashes source (atom ∷ [])
-one_found source atom start variables is met = sym (append-nil (atom_clashes source (type_met source variables.firsts) atom)) ∙ found_from source (atom ∷ []) start variables is met
+one_found source atom start variables is met = sym (append-nil (atom_clashes source (type_met source variables.firsts) atom)) ∙ scope_found source (atom ∷ []) variables (subst (λ (v : Variables). AreMet source (atom ∷ []) v variables) is met)
 
 pub two_found : (source : Source) (one two : List RawAtom) (variables : Variables) (first other both : Option Fault) → AreMet source (one ++ two) none_met variables
     → first ≡ first_in (flat_map (atom_clashes source (type_met source variables.firsts)) one) → other ≡ first_in (flat_map (atom_clashes source (type_met source variables.firsts)) two) → both ≡ first_of first other

@@ -1,5 +1,5 @@
 -- The variables that were met so far, site by site: each once, with the type that is wanted where it occurs first.
-use Rattle.std.specs.Prelude.{◌≡◌, ℕ, if◌then◌else◌, List, [], ◌∷◌, ◌++◌, Option, map, fold}
+use Rattle.std.specs.Prelude.{◌≡◌, ℕ, Bool, true, false, if◌then◌else◌, List, [], ◌∷◌, ◌++◌, Option, map, fold}
 use Rattle.std.specs.Option.{option_map}
 use Rattle.std.specs.Str.{bytes_eq}
 use Rattle.std.specs.List.{list_any}
@@ -38,6 +38,12 @@ pub record AreMet (source : Source) (atoms : List RawAtom) (old new : Variables)
   pub firsts : wanted_in source new.firsts ≡ fold further (wanted_in source old.firsts) (wanted_from source old.blanks (sites_of source atoms))
   pub blanks : new.blanks ≡ blanks_after old.blanks (raw_nodes atoms)
   pub covered : map (λ site. site.node) (sites_of source atoms) ≡ raw_nodes atoms
+
+-- whether a node is a variable or a blank
+abbrev pub is_open : RawKind → Bool
+is_open kind.App = false
+is_open kind.Var = true
+is_open kind.Blank = true
 
 -- the head of a node by its number
 abbrev pub head_by : RawKind → ℕ → ℕ → Head

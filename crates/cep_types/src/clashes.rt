@@ -1,41 +1,49 @@
 // The terms of a text that are of other types than are wanted.
-ghost use Rattle.std.specs.Prelude.{◌≡◌, ◌++◌, IfOk};
-ghost use Rattle.std.specs.List.{flat_map};
+ghost use Rattle.std.specs.Prelude.{◌≡◌, [], ◌∷◌, ◌++◌, None, IfOk};
+ghost use Rattle.std.specs.List.{flat_map, list_any};
 ghost use Rattle.std.specs.Option.{option_map};
 ghost use Rattle.cep_refusal.specs.First.{first_in, IsFirstOrNone};
 ghost use Rattle.cep_parse.specs.Raw.{atoms_of};
 ghost use Rattle.cep_source.specs.Items.{said};
 ghost use Rattle.cep_source.specs.Kept.{atom_at, clause_item};
 ghost use Rattle.cep_types.specs.Clashes.{type_at, clash_of, atom_clashes, scope_clashes, state_clashes, rule_clashes, clause_clashes, context_clashes, trace_clashes};
-ghost use Rattle.cep_types.specs.Met.{type_met};
+ghost use Rattle.cep_types.specs.Met.{type_met, is_open};
 ghost use Rattle.cep_types.specs.Sites.{Mistyped, clause_scope};
 
-use crate::sites::{pending, site};
+use crate::sites::{Expected, pending, site};
 use crate::variables::{clause_variables, meet_atom, rule_variables};
 use cep_parse::{RawAtom, RawElem, RawKind, RawNode, RawRule, Span};
 use cep_refusal::{Fault, FirstFault, Reason};
 use cep_source::{AtomRef, ClauseRef, Source, Variables};
 use std::alloc::AllocError;
 
-// The type of the term at a node.
-fn node_type(source: &Source, variables: &Variables, node: &RawNode) -> Option<Span>
+// The type of the term at a node, whose constructor, if it is one, makes terms of this type.
+fn node_type(
+    source: &Source,
+    variables: &Variables,
+    node: &RawNode,
+    sort: Option<Span>,
+) -> Option<Span>
+    requires { option_map (said source.now) sort
+        ≡ type_at source.now (λ name. None) node.now.kind node.now.at }
     ensures { option_map (said source.now) result
         ≡ type_at source.now (type_met source.now variables.now.firsts) node.now.kind node.now.at }
 {
     match node.kind {
-        RawKind::App => Some(source.con(node.at)?.sort),
+        RawKind::App | RawKind::Blank => sort,
         RawKind::Var => variables.firsts.under(source.said(node.at)),
-        RawKind::Blank => None,
     }
 }
 
 // A term of another type than is wanted.
-fn clash(source: &Source, variables: &Variables, node: &RawNode, wants: Span) -> Option<Fault>
+fn clash(source: &Source, variables: &Variables, node: &RawNode, site: Expected) -> Option<Fault>
+    requires { option_map (said source.now) site.sort
+        ≡ type_at source.now (λ name. None) node.now.kind node.now.at }
     ensures { result ≡ first_in (clash_of source.now (type_met source.now variables.now.firsts)
-        (record { node = node.now; wants = said source.now wants })) }
+        (record { node = node.now; wants = said source.now site.wants })) }
 {
-    let is = node_type(source, variables, node)?;
-    if source.said(is) == source.said(wants) {
+    let is = node_type(source, variables, node, site.sort)?;
+    if source.said(is) == source.said(site.wants) {
         return None;
     }
     Some(Fault {
@@ -57,8 +65,8 @@ fn atom_clash(
     let mut first = FirstFault::none();
     let mut pending = pending(source, atom.name)?;
     for node in atom.nodes {
-        let wants = site(source, &mut pending, node)?;
-        first.note(clash(source, variables, node, wants));
+        let site = site(source, &mut pending, node)?;
+        first.note(clash(source, variables, node, site));
     }
     Ok(first.found())
 }
@@ -111,11 +119,33 @@ fn clash_among(
     Ok(first.found())
 }
 
+// Whether a node is a variable or a blank.
+fn has_variable(nodes: &[RawNode]) -> bool
+    ensures { result ≡ list_any (λ node. is_open node.kind) nodes.now }
+{
+    nodes.iter().any(|node| node.kind != RawKind::App)
+}
+
+// The first one of an atom that shares its variables with no other.
+fn lone_clash(source: &Source, atom: AtomRef) -> Result<Option<Fault>, AllocError>
+    ensures { IfOk result (λ first. first
+        ≡ first_in (scope_clashes source.now (atom_at atom.entry ∷ []))) }
+{
+    let mut variables = Variables::unmet(source.alloc());
+    if has_variable(atom.nodes) {
+        meet_atom(source, &mut variables, atom)?;
+    }
+    atom_clash(source, &variables, atom)
+}
+
 // The first one of a clause.
 fn clause_clash(source: &Source, clause: &ClauseRef) -> Result<Option<Fault>, AllocError>
     ensures { IfOk result (λ first. first
         ≡ first_in (scope_clashes source.now (clause_scope (clause_item clause.now)))) }
 {
+    if clause.goals.is_empty() {
+        return lone_clash(source, clause.head);
+    }
     let variables = clause_variables(source, clause)?;
     let first = atom_clash(source, &variables, clause.head)?;
     let other = clash_among(source, &variables, clause.goals)?;
@@ -128,9 +158,7 @@ fn states_clash(source: &Source, atoms: &[RawAtom]) -> Result<Option<Fault>, All
 {
     let mut first = FirstFault::none();
     for atom in atoms {
-        let mut variables = Variables::unmet(source.alloc());
-        meet_atom(source, &mut variables, AtomRef::of_raw(atom))?;
-        first.note(atom_clash(source, &variables, AtomRef::of_raw(atom))?);
+        first.note(lone_clash(source, AtomRef::of_raw(atom))?);
     }
     Ok(first.found())
 }

@@ -1,24 +1,33 @@
 // Which type is wanted of each term of an atom.
-ghost use Rattle.std.specs.Prelude.{◌≡◌, ◌∷◌, List, map, IfOk};
+ghost use Rattle.std.specs.Prelude.{◌≡◌, [], ◌∷◌, List, None, map, unwrap_or, IfOk};
+ghost use Rattle.std.specs.Option.{option_map};
 ghost use Rattle.cep_parse.specs.declared.raw.RawNode.{RawNode};
 ghost use Rattle.cep_source.specs.Items.{said};
+ghost use Rattle.cep_types.specs.Clashes.{type_at};
 ghost use Rattle.cep_types.specs.Sites.{node_types, pred_types, sites_from};
 
 use cep_base::Stack;
 use cep_parse::{RawKind, RawNode, Span};
-use cep_source::Source;
+use cep_source::{RawCon, Source};
 use std::alloc::AllocError;
 
-// The types that a node wants of its arguments.
-fn node_types<'a>(source: &Source<'a>, node: &RawNode) -> &'a [Span]
-    ensures { map (said source.now) result.now ≡ node_types source.now node.now.kind node.now.at }
+/// What is wanted of a term, and what its constructor says of it.
+#[derive(Clone, Copy, Drop)]
+pub(crate) struct Expected {
+    pub wants: Span,
+    pub sort: Option<Span>,
+}
+
+// The constructor at a node.
+fn con_at<'a>(source: &Source<'a>, node: &RawNode) -> Option<RawCon<'a>>
+    ensures sort { option_map (λ con. said source.now con.sort) result
+        ≡ type_at source.now (λ name. None) node.now.kind node.now.at }
+    ensures args { map (said source.now) (unwrap_or (option_map (λ con. con.args.now) result) [])
+        ≡ node_types source.now node.now.kind node.now.at }
 {
     match node.kind {
-        RawKind::App => match source.con(node.at) {
-            Some(con) => con.args,
-            None => &[],
-        },
-        RawKind::Var | RawKind::Blank => &[],
+        RawKind::App => source.con(node.at),
+        RawKind::Var | RawKind::Blank => None,
     }
 }
 
@@ -42,19 +51,27 @@ pub(crate) fn pending(source: &Source, name: Span) -> Result<Stack<Span>, AllocE
     Ok(pending)
 }
 
-// The type that is wanted of the next node.
+// What is wanted of the next node, and its constructor's type.
 pub(crate) fn site(
     source: &Source,
     pending: &mut Stack<Span>,
     node: &RawNode,
-) -> Result<Span, AllocError>
-    ensures { (nodes : List RawNode)
-        → IfOk result (λ wants. sites_from source.now (map (said source.now) pending.old)
-        (node.now ∷ nodes) ≡ record { node = node.now; wants = said source.now wants }
+) -> Result<Expected, AllocError>
+    ensures wants { (nodes : List RawNode)
+        → IfOk result (λ site. sites_from source.now (map (said source.now) pending.old)
+        (node.now ∷ nodes) ≡ record { node = node.now; wants = said source.now site.wants }
         ∷ sites_from source.now (map (said source.now) pending.new) nodes) }
+    ensures sort { IfOk result (λ site. option_map (said source.now) site.sort
+        ≡ type_at source.now (λ name. None) node.now.kind node.now.at) }
 {
     // In a text without wrong names no node is one too many.
     let wants = pending.pop().ok_or(AllocError)?;
-    pending.push_all(node_types(source, node))?;
-    Ok(wants)
+    let Some(con) = con_at(source, node) else {
+        return Ok(Expected { wants, sort: None });
+    };
+    pending.push_all(con.args)?;
+    Ok(Expected {
+        wants,
+        sort: Some(con.sort),
+    })
 }

@@ -25,8 +25,8 @@ pub(crate) fn meet_atom(
 {
     let mut pending = pending(source, atom.name)?;
     for node in atom.nodes {
-        let wants = site(source, &mut pending, node)?;
-        variables.meet(source, node, wants)?;
+        let site = site(source, &mut pending, node)?;
+        variables.meet(source, node, site.wants)?;
     }
     Ok(())
 }

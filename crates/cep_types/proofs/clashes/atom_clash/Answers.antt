@@ -13,8 +13,8 @@ loop-node-preserved c =
     let source = c.args.source.now in
     let f = clash_of source (type_met source c.args.variables.now.firsts) in
     let nodes = c.args.atom.nodes.now in
-    clash_more source f _ nodes c.loop-node.node-index _ (map (said source) c.loop-node.pending) (map (said source) c.site.new.pending) (said source c.in_ok-wants.wants) c.loop-node.first c.clash.result c.note.new.self c.loop-node-test.true
-    (c.in_ok-wants.ensures (drop (c.loop-node.node-index + 1) nodes)) c.loop-node.invariant c.clash.ensures c.note.ensures
+    clash_more source f _ nodes c.loop-node.node-index _ (map (said source) c.loop-node.pending) (map (said source) c.site.new.pending) (said source c.in_ok-site.site.wants) c.loop-node.first c.clash.result c.note.new.self c.loop-node-test.true
+    (c.in_ok-site.ensures.wants (drop (c.loop-node.node-index + 1) nodes)) c.loop-node.invariant c.clash.ensures c.note.ensures
 
 pub returns : goal.returns
 returns c =

@@ -10,8 +10,8 @@ loop-node-preserved c =
     let source = c.args.source.now in
     let nodes = c.args.atom.nodes.now in
     meeting_more source (sites_from source (map (said source) c.in_ok-pending.pending) nodes) nodes c.args.variables.now c.loop-node.variables c.meet.new.self
-    (map (said source) c.loop-node.pending) (map (said source) c.site.new.pending) c.loop-node.node-index _ c.in_ok-wants.wants c.loop-node-test.true
-    (c.in_ok-wants.ensures (drop (c.loop-node.node-index + 1) nodes)) c.in_ok-meet.ensures c.loop-node.invariant
+    (map (said source) c.loop-node.pending) (map (said source) c.site.new.pending) c.loop-node.node-index _ c.in_ok-site.site.wants c.loop-node-test.true
+    (c.in_ok-site.ensures.wants (drop (c.loop-node.node-index + 1) nodes)) c.in_ok-meet.ensures c.loop-node.invariant
 
 pub returns : goal.returns
 returns c =
