@@ -8,3 +8,4 @@ pub mod Joined
 pub mod FactKeys
 pub mod Counting
 pub mod TraceFaults
+pub mod Declared

@@ -6,7 +6,7 @@ ghost use Rattle.cep_source.specs.Kept.{atom_at};
 ghost use Rattle.cep_faults.specs.Faults.{pred_faults, node_faults, names_faults, back_faults, clause_atom_faults, side_atom_faults, elem_faults, state_faults, listed_faults};
 
 use crate::limits::unfit_fault;
-use crate::uses::{arity_fault, use_fault, wrong};
+use crate::uses::{arity_fault, lack_fault, use_fault, wrong};
 use cep_base::PredKind;
 use cep_parse::{RawAtom, RawElem, RawKind, RawNode};
 use cep_refusal::{Fault, FirstFault, Reason};
@@ -17,11 +17,10 @@ use std::alloc::AllocError;
 fn pred_fault(source: &Source, atom: AtomRef) -> Option<Fault>
     ensures { result ≡ first_in (pred_faults source.now (atom_at atom.entry)) }
 {
-    let arity = source.pred(atom.name).map(|pred| pred.args.len());
-    Fault::first_of(
-        use_fault(source, Space::Predicates, atom.name),
-        arity_fault(arity, atom.args, atom.name.from),
-    )
+    match source.pred(atom.name) {
+        Some(pred) => arity_fault(pred.args.len(), atom.args, atom.name.from),
+        None => lack_fault(source, atom.name),
+    }
 }
 
 // The fault of a node: of a constructor, or, in a state, of a variable or a blank.
@@ -29,11 +28,10 @@ fn node_fault(source: &Source, of_state: bool, node: &RawNode) -> Option<Fault>
     ensures { result ≡ first_in (node_faults source.now of_state node.now) }
 {
     if node.kind == RawKind::App {
-        let arity = source.con(node.at).map(|con| con.args.len());
-        return Fault::first_of(
-            use_fault(source, Space::Constructors, node.at),
-            arity_fault(arity, node.args, node.at.from),
-        );
+        return match source.con(node.at) {
+            Some(con) => arity_fault(con.args.len(), node.args, node.at.from),
+            None => lack_fault(source, node.at),
+        };
     }
     if !of_state {
         return None;

@@ -18,7 +18,7 @@ pub(crate) fn is_of_fact(source: &Source, atom: &RawAtom) -> bool
     }
 }
 
-// Adds the key of a name: each byte behind a mark, and a stop.
+// Adds the key of a name: each byte after a mark, and a stop.
 fn put_name(name: &[u8], key: &mut Text) -> Result<(), AllocError>
     ensures { OnOk result (key.new ≡ key.old ++ name_key name.now) }
 {

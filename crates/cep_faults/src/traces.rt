@@ -161,7 +161,7 @@ fn large_fault(source: &Source, trace: &TraceRef) -> Result<Option<Fault>, Alloc
     Ok(start_past(size, trace.at))
 }
 
-// The first fault of traces behind the first one.
+// The first fault of traces after the first one.
 fn two_fault(traces: &[TraceRef]) -> Option<Fault>
     ensures { result ≡ first_in (two_faults (map trace_item traces.now)) }
 {

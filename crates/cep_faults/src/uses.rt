@@ -1,9 +1,9 @@
 // The uses of names.
-ghost use Rattle.std.specs.Prelude.{◌≡◌, Some};
+ghost use Rattle.std.specs.Prelude.{◌≡◌, Some, false};
 ghost use Rattle.std.specs.List.{flat_map};
 ghost use Rattle.cep_refusal.specs.First.{wrong, first_in};
 ghost use Rattle.cep_source.specs.Items.{said};
-ghost use Rattle.cep_faults.specs.Faults.{is_somewhere, use_faults, arity_faults};
+ghost use Rattle.cep_faults.specs.Faults.{is_somewhere, lack_faults, use_faults, arity_faults};
 
 use cep_parse::Span;
 use cep_refusal::{Fault, FirstFault, Reason};
@@ -35,6 +35,14 @@ pub(crate) fn use_fault(source: &Source, space: Space, name: Span) -> Option<Fau
     if source.has(space, name) {
         return None;
     }
+    lack_fault(source, name)
+}
+
+// The fault of a name that the space has not in which it is looked for.
+pub(crate) fn lack_fault(source: &Source, name: Span) -> Option<Fault>
+    ensures { result ≡ first_in (lack_faults false
+        (is_somewhere source.now (said source.now name)) name.from) }
+{
     let reason = if is_somewhere(source, name) {
         Reason::WrongKind
     } else {
@@ -55,10 +63,10 @@ pub(crate) fn uses_fault(source: &Source, space: Space, names: &[Span]) -> Optio
 }
 
 // Another number of arguments than is declared.
-pub(crate) fn arity_fault(arity: Option<usize>, args: u32, at: u32) -> Option<Fault>
-    ensures { result ≡ first_in (arity_faults arity args at) }
+pub(crate) fn arity_fault(arity: usize, args: u32, at: u32) -> Option<Fault>
+    ensures { result ≡ first_in (arity_faults (Some arity) args at) }
 {
-    if args as usize == arity? {
+    if args as usize == arity {
         return None;
     }
     wrong(Reason::WrongArity, at)

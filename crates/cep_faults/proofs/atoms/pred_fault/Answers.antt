@@ -1,18 +1,25 @@
-use Rattle.std.proofs.Common.{rules, length, ap, ◌∙◌}
+use Rattle.std.proofs.Common.{length, ap, ◌∙◌}
+use Rattle.std.specs.Str.{bytes_eq}
 use Rattle.cep_refusal.specs.First.{first_in}
-use Rattle.cep_source.specs.declared.space.Space.TheVariants as space
-use Rattle.cep_source.specs.Items.{PredItem}
-use Rattle.cep_source.specs.Kept.{atom_at, pred_item}
-use Rattle.cep_faults.specs.Faults.{use_faults, arity_faults, pred_arity}
-use Rattle.cep_faults.proofs.Firsts.{followed, mapped_by, mapped_twice}
+use Rattle.cep_source.specs.Items.{PredItem, preds_of, said}
+use Rattle.cep_source.specs.Spaces.{Named, named}
+use Rattle.cep_source.specs.Kept.{pred_item}
+use Rattle.cep_faults.specs.Faults.{is_somewhere}
+use Rattle.cep_faults.proofs.Declared.{declared, undeclared}
 use Rattle.cep_faults.proofs.atoms.pred_fault.Goals as goal
 
-pub returns : goal.returns
-returns c =
+pub returns-in-Some : goal.returns-in-Some
+returns-in-Some c =
     let source = c.args.source.now in
     let atom = c.args.atom in
-    followed (use_faults source space.Predicates atom.name) (arity_faults (pred_arity source (atom_at atom)) atom.args atom.name.from) _ _ _ c.use_fault.ensures
-    (c.arity_fault.ensures ∙ ap (λ arity. first_in (arity_faults arity atom.args atom.name.from))
-    (mapped_by (λ pred. length pred.args.now) c.pred.result c.map-arity.result (λ pred n gives. search rules) c.map-arity.ensures.cases
-    ∙ mapped_twice (λ (pred : PredItem). length pred.args) pred_item c.pred.result _ c.pred.ensures))
-    c.first_of.ensures
+    c.arity_fault.ensures
+    ∙ ap first_in (declared (λ (other : Named). bytes_eq other.name (said source atom.name)) (λ (pred : PredItem). named source pred.name) (preds_of source) (λ (pred : PredItem). length pred.args)
+    (is_somewhere source (said source atom.name)) atom.args atom.name.from (pred_item c.in-Some.pred) c.in-Some.ensures)
+
+pub returns-in-None : goal.returns-in-None
+returns-in-None c =
+    let source = c.args.source.now in
+    let atom = c.args.atom in
+    c.lack_fault.ensures
+    ∙ ap first_in (undeclared (λ (other : Named). bytes_eq other.name (said source atom.name)) (λ (pred : PredItem). named source pred.name) (preds_of source) (λ (pred : PredItem). length pred.args)
+    (is_somewhere source (said source atom.name)) atom.args atom.name.from c.in-None.ensures)
