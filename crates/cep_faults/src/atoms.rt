@@ -1,23 +1,27 @@
 // The atoms of a file, by where they stand.
 ghost use Rattle.std.specs.Prelude.{◌≡◌, IfOk};
 ghost use Rattle.std.specs.List.{flat_map};
+ghost use Rattle.std.specs.Option.{option_map};
 ghost use Rattle.cep_refusal.specs.First.{first_in};
-ghost use Rattle.cep_source.specs.Kept.{atom_at};
-ghost use Rattle.cep_faults.specs.Faults.{pred_faults, node_faults, names_faults, back_faults, clause_atom_faults, side_atom_faults, elem_faults, state_faults, listed_faults};
+ghost use Rattle.cep_source.specs.Items.{said};
+ghost use Rattle.cep_source.specs.Kept.{atom_at, pred_item};
+ghost use Rattle.cep_source.specs.Spaces.{pred_named};
+ghost use Rattle.cep_faults.specs.Faults.{pred_faults, node_faults, names_faults, back_faults, linear_faults, clause_atom_faults, side_atom_faults, elem_faults, state_faults, listed_faults};
 
 use crate::limits::unfit_fault;
 use crate::uses::{arity_fault, lack_fault, use_fault, wrong};
 use cep_base::PredKind;
 use cep_parse::{RawAtom, RawElem, RawKind, RawNode};
 use cep_refusal::{Fault, FirstFault, Reason};
-use cep_source::{AtomRef, Source, Space};
+use cep_source::{AtomRef, RawPred, Source, Space};
 use std::alloc::AllocError;
 
-// The fault of the predicate of an atom.
-fn pred_fault(source: &Source, atom: AtomRef) -> Option<Fault>
+// The fault of the predicate of an atom, which is declared so.
+fn pred_fault(source: &Source, pred: Option<RawPred>, atom: AtomRef) -> Option<Fault>
+    requires { option_map pred_item pred ≡ pred_named source.now (said source.now atom.name) }
     ensures { result ≡ first_in (pred_faults source.now (atom_at atom.entry)) }
 {
-    match source.pred(atom.name) {
+    match pred {
         Some(pred) => arity_fault(pred.args.len(), atom.args, atom.name.from),
         None => lack_fault(source, atom.name),
     }
@@ -40,11 +44,17 @@ fn node_fault(source: &Source, of_state: bool, node: &RawNode) -> Option<Fault>
 }
 
 // The first fault of the names that an atom uses, and, in a state, of its variables.
-fn names_fault(source: &Source, of_state: bool, atom: AtomRef) -> Option<Fault>
+fn names_fault(
+    source: &Source,
+    of_state: bool,
+    pred: Option<RawPred>,
+    atom: AtomRef,
+) -> Option<Fault>
+    requires { option_map pred_item pred ≡ pred_named source.now (said source.now atom.name) }
     ensures { result ≡ first_in (names_faults source.now of_state (atom_at atom.entry)) }
 {
     let mut first = FirstFault::none();
-    first.note(pred_fault(source, atom));
+    first.note(pred_fault(source, pred, atom));
     for node in atom.nodes {
         first.note(node_fault(source, of_state, node));
     }
@@ -52,12 +62,24 @@ fn names_fault(source: &Source, of_state: bool, atom: AtomRef) -> Option<Fault>
 }
 
 // A backward predicate where an atom becomes part of a state.
-fn back_fault(source: &Source, atom: AtomRef) -> Option<Fault>
+fn back_fault(source: &Source, pred: Option<RawPred>, atom: AtomRef) -> Option<Fault>
+    requires { option_map pred_item pred ≡ pred_named source.now (said source.now atom.name) }
     ensures { result ≡ first_in (back_faults source.now (atom_at atom.entry)) }
 {
-    match source.kind(atom.name) {
-        Some(PredKind::Back) => wrong(Reason::BwdInState, atom.name.from),
-        Some(PredKind::Linear | PredKind::Fact) | None => None,
+    match pred?.kind {
+        PredKind::Back => wrong(Reason::BwdInState, atom.name.from),
+        PredKind::Linear | PredKind::Fact => None,
+    }
+}
+
+// A predicate of states where an atom is part of a clause.
+fn linear_fault(source: &Source, pred: Option<RawPred>, atom: AtomRef) -> Option<Fault>
+    requires { option_map pred_item pred ≡ pred_named source.now (said source.now atom.name) }
+    ensures { result ≡ first_in (linear_faults source.now (atom_at atom.entry)) }
+{
+    match pred?.kind {
+        PredKind::Linear | PredKind::Fact => wrong(Reason::LinearInClause, atom.name.from),
+        PredKind::Back => None,
     }
 }
 
@@ -65,22 +87,19 @@ fn back_fault(source: &Source, atom: AtomRef) -> Option<Fault>
 pub(crate) fn clause_atom_fault(source: &Source, atom: AtomRef) -> Option<Fault>
     ensures { result ≡ first_in (clause_atom_faults source.now (atom_at atom.entry)) }
 {
-    let names = names_fault(source, false, atom);
-    let linear = wrong(Reason::LinearInClause, atom.name.from);
-    match source.kind(atom.name) {
-        Some(PredKind::Linear) => Fault::first_of(names, linear),
-        Some(PredKind::Fact) => Fault::first_of(names, linear),
-        Some(PredKind::Back) | None => names,
-    }
+    let pred = source.pred(atom.name);
+    let names = names_fault(source, false, pred, atom);
+    Fault::first_of(names, linear_fault(source, pred, atom))
 }
 
 // The first fault of an atom of a side, which a right side makes part of a state.
 fn side_atom_fault(source: &Source, made: bool, atom: AtomRef) -> Option<Fault>
     ensures { result ≡ first_in (side_atom_faults source.now made (atom_at atom.entry)) }
 {
-    let names = names_fault(source, false, atom);
+    let pred = source.pred(atom.name);
+    let names = names_fault(source, false, pred, atom);
     if made {
-        Fault::first_of(names, back_fault(source, atom))
+        Fault::first_of(names, back_fault(source, pred, atom))
     } else {
         names
     }
@@ -107,8 +126,10 @@ fn state_fault(source: &Source, atom: AtomRef) -> Result<Option<Fault>, AllocErr
         ≡ first_in (state_faults source.now (atom_at atom.entry))) }
 {
     let unfit = unfit_fault(source.alloc(), atom)?;
-    let names = names_fault(source, true, atom);
-    Ok(Fault::first_of(Fault::first_of(names, back_fault(source, atom)), unfit))
+    let pred = source.pred(atom.name);
+    let names = names_fault(source, true, pred, atom);
+    let backward = back_fault(source, pred, atom);
+    Ok(Fault::first_of(Fault::first_of(names, backward), unfit))
 }
 
 // The first fault of atoms that a context lists, or a trace in braces.

@@ -14,7 +14,7 @@ returns-in-Some c =
     let atom = c.args.atom in
     c.arity_fault.ensures
     ∙ ap first_in (declared (λ (other : Named). bytes_eq other.name (said source atom.name)) (λ (pred : PredItem). named source pred.name) (preds_of source) (λ (pred : PredItem). length pred.args)
-    (is_somewhere source (said source atom.name)) atom.args atom.name.from (pred_item c.in-Some.pred) c.in-Some.ensures)
+    (is_somewhere source (said source atom.name)) atom.args atom.name.from (pred_item c.in-Some.pred) (rw c.in-Some.is at c.requires))
 
 pub returns-in-None : goal.returns-in-None
 returns-in-None c =
@@ -22,4 +22,4 @@ returns-in-None c =
     let atom = c.args.atom in
     c.lack_fault.ensures
     ∙ ap first_in (undeclared (λ (other : Named). bytes_eq other.name (said source atom.name)) (λ (pred : PredItem). named source pred.name) (preds_of source) (λ (pred : PredItem). length pred.args)
-    (is_somewhere source (said source atom.name)) atom.args atom.name.from c.in-None.ensures)
+    (is_somewhere source (said source atom.name)) atom.args atom.name.from (rw c.in-None.is at c.requires))

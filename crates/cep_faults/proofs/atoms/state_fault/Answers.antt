@@ -9,4 +9,4 @@ returns c =
     let source = c.args.source.now in
     let atom = atom_at c.args.atom in
     followed (names_faults source true atom ++ back_faults source atom) (unfit_faults atom) _ _ _
-    (followed (names_faults source true atom) (back_faults source atom) _ _ _ c.names_fault-names.ensures c.back_fault.ensures c.first_of.ensures) c.in_ok-unfit.ensures c.first_of-2.ensures
+    (followed (names_faults source true atom) (back_faults source atom) _ _ _ c.names_fault-names.ensures c.back_fault-backward.ensures c.first_of.ensures) c.in_ok-unfit.ensures c.first_of-2.ensures
