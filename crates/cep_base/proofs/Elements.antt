@@ -8,7 +8,7 @@ use Rattle.std.proofs.lemmas.Option.{slice_get_within, get_or_from_slice_get}
 use Rattle.cep_base.proofs.Members.{via, through, image, to_contains, from_contains}
 
 module _ {X : Type 0} where
-  -- what holds of two lists holds of both, one behind the other
+  -- what holds of two lists holds of both, one after the other
   pub both_all : (P : X → Type 0) (xs ys : List X) → AllByRecursion P xs → AllByRecursion P ys → AllByRecursion P (xs ++ ys)
   both_all P xs ys here there = search (recursion_from_All, All-append, All-from_recursion)
 
@@ -20,11 +20,11 @@ module _ {X : Type 0} where
   pub contains_first : (first : X) (rest : List X) → Contains (first ∷ rest) first
   contains_first first rest = grind arith
 
-  -- what stands behind the first is an element
+  -- what stands after the first is an element
   pub contains_behind : (first : X) (rest : List X) (x : X) → Contains rest x → Contains (first ∷ rest) x
   contains_behind first rest x there = Contains-append_right (first ∷ []) rest x there
 
-  -- an element is the first, or stands behind it
+  -- an element is the first, or stands after it
   pub contains_cases : (first : X) (rest : List X) (x : X) → Contains (first ∷ rest) x → (first ≡ x) ⊎ Contains rest x
   contains_cases first rest x there = grind arith
 
@@ -70,7 +70,7 @@ module _ {X Y : Type 0} where
       let is = image f xs y (from_contains (map f xs) y there) in
       record { from = is.from; there = to_contains xs is.from is.member; same = sym is.is }
 
-  -- an element of lists that stand one behind the other
+  -- an element of lists that stand one after the other
   pub contains_flat : (f : X → List Y) (xs : List X) (x : X) (y : Y) → Contains xs x → Contains (f x) y → Contains (flat_map f xs) y
   contains_flat f xs x y there inside = search (to_contains, via, from_contains)
 

@@ -147,7 +147,7 @@ fn with_word(alloc: Global, text: &[u8], line: &str) -> Option<Result<Vec<u8>, A
 /// |---|---|
 /// | `N \| LINE` | puts a line in the place of line N |
 /// | `N \|` | leaves line N out |
-/// | `N` | leaves all lines behind line N out |
+/// | `N` | leaves all lines after line N out |
 /// | `~ OLD => NEW` | puts a new part in the place of an old one, where that stands first |
 /// | `returns` | puts a carriage return before each line feed |
 /// | `open` | leaves the last line feed out |

@@ -41,7 +41,7 @@ fn put_names(names: &[String], out: &mut String) -> Result<(), AllocError> {
     Ok(())
 }
 
-// Adds bytes as lines of their own, behind four spaces each. A backslash ends the last one if it has no line feed.
+// Adds bytes as lines of their own, after four spaces each. A backslash ends the last one if it has no line feed.
 fn put_lines(said: &[u8], out: &mut String) -> Result<(), AllocError> {
     let mut begins = true;
     for byte in said {

@@ -19,7 +19,7 @@ use Rattle.cep_log.specs.Legal.{AtomsRise, IsListing, IsHave}
 use Rattle.cep_check.specs.Causes.{ListsCount, IsFirstDifference, IsFirstLack}
 use Rattle.cep_check.specs.Places.{Agree, AgreeBelow}
 
--- a place of a listing is before, at or behind another
+-- a place of a listing is before, at or after another
 pub three_ways : (i j : ℕ) → (i < j) ⊎ ((i ≡ j) ⊎ (j < i))
 three_ways i j = elim (nat_lt i j) as (λ t. nat_lt i j ≡ t → (i < j) ⊎ ((i ≡ j) ⊎ (j < i))) [
   | true ↦ λ e. inl (ltb-true i j e)
@@ -56,7 +56,7 @@ module _ (laws : BagLaws) where
       clash : Less ≡ Equal → ⊥
       clash e = cc
 
-  -- what stands at a place or behind it is not less than what is not greater than it
+  -- what stands at a place or after it is not less than what is not greater than it
   not_below : (xs : List (AtomTree × ℕ)) → Rises xs → (place : ℕ) (x y : AtomTree) (n : ℕ) → slice_get xs place ≡ Some (y, n) → (x ≡ y) ⊎ (atom_cmp x y ≡ Less) → (j : ℕ) (a : AtomTree) (m : ℕ) → place ≤ j → slice_get xs j ≡ Some (a, m) → atom_cmp a x ≡ Less → ⊥
   not_below xs rises place x y n at low j a m behind there less = ⊎_elim
       (λ (after : place < j). not_itself a (laws.total.trans a y a below_y (rises place j y a n m after at there)))
@@ -71,7 +71,7 @@ module _ (laws : BagLaws) where
       below_y : atom_cmp a y ≡ Less
       below_y = ⊎_elim (λ same. subst (λ b. atom_cmp a b ≡ Less) same less) (λ under. laws.total.trans a x y less under) low
 
-  -- what is less than what stands at a place does not stand there or behind it
+  -- what is less than what stands at a place does not stand there or after it
   not_from : (xs : List (AtomTree × ℕ)) → Rises xs → (place : ℕ) (x y : AtomTree) (n : ℕ) → slice_get xs place ≡ Some (y, n) → atom_cmp x y ≡ Less → (j : ℕ) (m : ℕ) → place ≤ j → slice_get xs j ≡ Some (x, m) → ⊥
   not_from xs rises place x y n at less j m behind there = ⊎_elim
       (λ (after : place < j). not_itself x (laws.total.trans x y x less (rises place j y x n m after at there)))
@@ -122,7 +122,7 @@ module _ (laws : BagLaws) where
         not_before : (j : ℕ) → (j ≡ place) ⊎ (place < j) → place ≤ j
         not_before j behind = ⊎_elim (λ (here : j ≡ place). omega arith) (λ (after : place < j). omega arith) behind
 
-    -- an entry that the listing does not have behind here it does not have at all
+    -- an entry that the listing does not have after here it does not have at all
     unlisted : (x : AtomTree) (n : ℕ) → slice_get (finite.entries state) place ≡ Some (x, n) → ((j : ℕ) (m : ℕ) → place ≤ j → slice_get listing j ≡ Some (x, m) → ⊥) → ListsCount listing x 0
     unlisted x n at none = inr (
       refl,
@@ -134,7 +134,7 @@ module _ (laws : BagLaws) where
           (three_ways found.0 place),
     )
 
-    -- and a line whose atom the state does not have behind here is of an atom that is not there
+    -- and a line whose atom the state does not have after here is of an atom that is not there
     not_there : (x : AtomTree) (n : ℕ) → slice_get listing place ≡ Some (x, n) → ((j : ℕ) (m : ℕ) → place ≤ j → slice_get (finite.entries state) j ≡ Some (x, m) → ⊥) → 0 ≡ count_of state x
     not_there x n at none = no_entry state x (λ j m there. ⊎_elim
         (λ (before : j < place). not_itself x (listing_rises listing is.rising j place x x m n before (below j before ∙ there) at))

@@ -20,7 +20,7 @@ use Rattle.cep_check.specs.Renewing.{renewed_lines, last_lines}
 abbrev pub listed : Multiset → LogMid
 listed state = record { line = 0; state = finite.entries state }
 
--- the listing that is due behind the step of a number
+-- the listing that is due after the step of a number
 abbrev pub due_mid : ℕ → Multiset → Option LogMid
 due_mid number state = cond (has_listing Two number) (Some (listed state)) None
 

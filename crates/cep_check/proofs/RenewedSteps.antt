@@ -38,7 +38,7 @@ left_one [] i x at = none_some x at
 left_one (first ∷ xs) zero x at = ap (λ it. it ∷ xs) (some_same first x at)
 left_one (first ∷ xs) (suc i) x at = left_one xs i x at
 
--- what is left from a place on is what is there, and all behind it
+-- what is left from a place on is what is there, and all after it
 pub left_at : {A : Type 0} (xs : List A) (i : ℕ) (x : A) → slice_get xs i ≡ Some x → drop i xs ≡ x ∷ drop (i + 1) xs
 left_at xs i x at = left_one xs i x at ∙ ap (λ n. x ∷ drop n xs) (sym (add-one i))
 

@@ -13,7 +13,7 @@ use Rattle.cep_check.specs.declared.cause.Verdict.TheVariants.{Accepted, Refused
 use Rattle.cep_check.specs.Causes.{IsEndCause, end_line, IsRefusedFrom, IsVerdict}
 use Rattle.cep_check.specs.Walking.{IsEndVerdict}
 
--- behind the last step nothing is left to do
+-- after the last step nothing is left to do
 pub none_left : (program : Parts) (height : ℕ) (steps : List LogStep) (n : ℕ) (spot : Spot) → length steps ≤ n → AreLegalSteps program height (drop n steps) spot spot
 none_left program height steps n spot all = subst (λ rest. AreLegalSteps program height rest spot spot) (sym (drop_all n steps all)) refl
 

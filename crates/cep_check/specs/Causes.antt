@@ -130,7 +130,7 @@ IsStartCause program log (EndState atom said is) = ⊥
 -- the stage nor leaves it; the left side is not contained; a derivation does not prove its premise,
 -- or it does and is too high; the rule leaves its stage while one of the stage's own has an offer,
 -- of which the first is told; an atom that the rule makes is not fit, or all are and the new state
--- does not fit; the stage that is said is another than the rule's; or the listing behind the step
+-- does not fit; the stage that is said is another than the rule's; or the listing after the step
 -- is not the new state.
 abbrev pub IsStepCause : Parts → ℕ → Spot → Rule → LogStep → Cause → Type 0
 IsStepCause program height old rule step (OtherStage number) =
@@ -178,7 +178,7 @@ IsTrulyQuiet program height last end =
     → (¬ HasOffer program height last.state (own_group last.stage))
     × (¬ HasOffer program height last.state (leaving_group last.stage))
 
--- The cause comes behind all steps, which lead to this spot, and none of those above it does: there
+-- The cause comes after all steps, which lead to this spot, and none of those above it does: there
 -- is no end; quiet is said and the asked group has an offer, of which the first is told; or the
 -- listing is not the state.
 abbrev pub IsEndCause : Parts → ℕ → Spot → Option LogEnd → Cause → Type 0
@@ -217,13 +217,13 @@ cause_line step (StageLine said is) = step.line
 cause_line step NotEnded = step.line
 cause_line step (EndState atom said is) = step.line
 
--- the line of the end, and where there is none the one behind the last
+-- the line of the end, and where there is none the one after the last
 abbrev pub end_line : Log → Option LogEnd → ℕ
 end_line log None = log.lines + 1
 end_line log (Some end) = end.line
 
 -- From a spot on, with these steps left, the log is refused at a line for a cause: at the first
--- step that is not legal, or, where all are, behind them.
+-- step that is not legal, or, where all are, after them.
 abbrev pub IsRefusedFrom : Parts → Log → Spot → List LogStep → ℕ → Cause → Type 0
 IsRefusedFrom program log old [] line cause =
     (line ≡ end_line log log.end) × IsEndCause program log.height old log.end cause

@@ -77,7 +77,7 @@ IsStageCause said named (StageLine one other) =
     (said ≡ Some one) × (named ≡ Some other) × (one ≢ other)
 IsStageCause said named cause = ⊥
 
--- The step leads from one spot to the other, whatever is listed behind it.
+-- The step leads from one spot to the other, whatever is listed after it.
 pub record IsDoneStep (program : Parts) (height : ℕ) (old new : Spot) (rule : Rule) (step : LogStep)
     : Type 0 where
   pub machine : IsMachineStep program height old new step.offer rule step.proofs

@@ -51,7 +51,7 @@ pub enum Cause {
         said: u32,
         is: u32,
     },
-    /// The listing behind the step, at this line, is not the state after it.
+    /// The listing after the step, at this line, is not the state after it.
     MidState {
         line: u32,
         atom: Atom,

@@ -20,10 +20,10 @@ use cep_term::copy;
 use std::alloc::{AllocError, Global};
 use std::sync::ledger::Ledger;
 
-/// Whether a log of the program is legal for it: it is accepted exactly where it is, with the
+/// Whether a log of the program is legal for it: it is accepted if and only if it is, with the
 /// number of its steps, and else refused for the first cause that comes, with its line. Both are
 /// one, by the law `one_cause`. The offers are those within the log's height. Which logs are legal
-/// is said with the log. Each verdict can be told as a line. Only want of memory is refused, after
+/// is said with the log. Each verdict can be told as a line. Only out of memory is refused, after
 /// any ticks.
 pub fn check<L: Ledger>(
     alloc: Global,
@@ -151,7 +151,7 @@ fn finish<L: Ledger>(
     }
 }
 
-// The line of the end, and where there is none the one behind the last.
+// The line of the end, and where there is none the one after the last.
 fn end_line(log: &Log) -> u32
     requires { log.now.lines ≤ MOST_LOG }
     ensures { result ≡ end_line log.now log.now.end }

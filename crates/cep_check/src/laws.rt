@@ -19,7 +19,7 @@ use cep_rule::laws::{
 };
 use cep_term::laws::bags_are_lawful;
 
-/// A log that is refused is not legal: so a log is accepted exactly where it is legal.
+/// A log that is refused is not legal: so a log is accepted if and only if it is legal.
 pub fn refused_logs_are_not_legal()
     ensures { (program : Parts) (log : Log) (line : ℕ) (cause : Cause)
         → IsLogRefused program log line cause

@@ -26,7 +26,7 @@ use cep_term::Bag;
 use std::alloc::{AllocError, Global};
 
 /// The text in version 2 of a legal log: what is written from its height, its start, its steps and
-/// its end, with the states after its steps as the listings behind them. It is a transcript of a
+/// its end, with the states after its steps as the listings after them. It is a transcript of a
 /// legal log in which the same was done. None comes exactly when that text has more than 67,108,864
 /// bytes, which is the limit of a transcript. Only out of memory is refused.
 pub fn renew(alloc: Global, program: &Program, log: &Log) -> Result<Option<Text>, AllocError>

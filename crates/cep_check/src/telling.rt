@@ -17,7 +17,7 @@ use cep_text::{put_atom, put_offer};
 use std::alloc::AllocError;
 
 /// The line of a verdict: `accepted N`, N the number of steps, or `refused LINE TEXT`, where TEXT
-/// is the name of the cause and what there is to say of it. After `AllocError` a front of the line
+/// is the name of the cause and what there is to say of it. After `AllocError` a prefix of the line
 /// was added, as with every writer here. The words are this profile's.
 pub fn put_verdict(program: &Program, verdict: &Verdict, out: &mut Text) -> Result<(), AllocError>
     requires { IsTellable program.now verdict.now }
@@ -126,7 +126,7 @@ fn put_cause(program: &Program, cause: &Cause, out: &mut Text) -> Result<(), All
     }
 }
 
-// The stage that is said and the one that it is, behind the cause's words.
+// The stage that is said and the one that it is, after the cause's words.
 #[tactic(auto, using(std::proofs::Common::append_assoc), unfolding(crate::specs::Telling::stages_text))]
 fn put_stages(
     program: &Program,
@@ -182,7 +182,7 @@ fn put_copies(program: &Program, count: u32, atom: &Atom, out: &mut Text) -> Res
     put_atom(program, atom, out)
 }
 
-// Two numbers of copies behind the cause's words, and the atom that has so many.
+// Two numbers of copies after the cause's words, and the atom that has so many.
 #[tactic(auto, using(std::proofs::Common::append_assoc), unfolding(crate::specs::Telling::counts_text))]
 fn put_counts(
     program: &Program,
@@ -207,7 +207,7 @@ fn put_counts(
     put_copies(program, other, atom, out)
 }
 
-// The rule that is of another stage, behind the cause's name.
+// The rule that is of another stage, after the cause's name.
 #[tactic(auto, using(std::proofs::Common::append_assoc))]
 fn put_other_stage(
     program: &Program,

@@ -4,7 +4,7 @@ use Rattle.rand_pcg.specs.Lcg.{Lcg, next, next_state, state_after, advance, star
 use Rattle.rand_pcg.specs.Pcg.{multiplier_64, output_xsh_rr, pcg32}
 use Rattle.cep_choice.specs.Draws.{generator_behind, word_drawn, place_drawn}
 
--- one step behind so many is one more
+-- one step after so many is one more
 step_behind : (w m p n s : ℕ) → next_state w m p (state_after w m p n s) ≡ state_after w m p (suc n) s
 unfolding state_after
 step_behind w m p zero s = refl
@@ -14,7 +14,7 @@ pub begins : (seed : ℕ) → started 64 multiplier_64 seed (increment_of 64 54)
 unfolding generator_behind state_after
 begins seed = refl
 
--- the word behind so many, and the generator behind it
+-- the word after so many, and the generator after it
 pub draws : (seed drawn word n : ℕ) (old new : Lcg) → old ≡ generator_behind seed drawn → (word, new) ≡ pcg32 old
     → (word * n / 2 ^ 32 + 1 ≡ place_drawn seed drawn n) × (new ≡ generator_behind seed (drawn + 1))
 unfolding generator_behind word_drawn place_drawn

@@ -20,7 +20,7 @@ last_of byte (next ∷ bytes) =
     let later = last_of next bytes in
     (byte ∷ later.0, later.1, ap (λ rest. byte ∷ rest) later.2)
 
--- a front of a list is the whole list, or it is a front of what stands before the last element
+-- a prefix of a list is the whole list, or it is a prefix of what stands before the last element
 before_last : (front more whole : List ℕ) (last : ℕ) → front ++ more ≡ whole ++ last ∷ []
     → ((more ≡ []) × (front ≡ whole ++ last ∷ [])) ⊎ ((between : List ℕ) × (front ++ between ≡ whole))
 before_last front [] whole last e = inl (refl, sym (append-nil front) ∙ e)
@@ -71,7 +71,7 @@ digit_within : (digits : List ℕ) (byte : ℕ) (more : List ℕ) → AllDigits 
 digit_within [] byte more all = digit_from_value byte all.0
 digit_within (digit ∷ digits) byte more all = digit_within digits byte more all.1
 
--- the byte is a digit of the number, behind these digits
+-- the byte is a digit of the number, after these digits
 HasDigit : ℕ → List ℕ → ℕ → Type 0
 HasDigit number digits byte = IsInRange 48 57 byte × (after : List ℕ) × (digits ++ byte ∷ after ≡ decimal number)
 
@@ -138,14 +138,14 @@ bad_first n now byte small empty other bytes reads =
     let no_end = λ (place : ℕ) (within : place ≤ n) (end : byte ≡ 13) (none : [] ≡ decimal place). not_empty place [] (omega arith) (append-nil (decimal place) ∙ sym none) in
     subst (λ front. Reads n Bad (front ++ byte ∷ [])) (sym nil) (bad_byte n [] byte small no_digit no_end)
 
--- a byte behind a number is neither a digit nor the CR
+-- a byte after a number is neither a digit nor the CR
 pub bad_later : (n : ℕ) (now : Typed) (byte : ℕ) → n < 2 ^ 32 → (48 ≤ byte → byte ≤ 57 → ⊥) → byte ≢ 13
     → (bytes : List ℕ) → Reads n now bytes → Reads n Bad (bytes ++ byte ∷ [])
 unfolding HasDigit
 bad_later n now byte small other no_end bytes reads =
     bad_byte n bytes byte small (λ place some within digit. other digit.0.0 digit.0.1) (λ place within end same. no_end end)
 
--- the CR in front of a byte is neither a digit nor at the end
+-- the CR before a byte is neither a digit nor at the end
 bad_closed : (n value byte : ℕ) → n < 2 ^ 32 → (more : List ℕ) → ChoosesNone n (decimal value ++ 13 ∷ (byte ∷ more))
 unfolding HasDigit
 bad_closed n value byte small more place chosen =
@@ -154,7 +154,7 @@ bad_closed n value byte small more place chosen =
       | inr end ↦ (let none = ap length end.2 in omega (arith, none))
     ]
 
--- no byte may stand behind the CR, nor does one mend a bad line
+-- no byte may stand after the CR, nor does one mend a bad line
 pub bad_end : (n : ℕ) (now : Typed) (byte : ℕ) → n < 2 ^ 32 → ((value : ℕ) × (now ≡ Closed value)) ⊎ (now ≡ Bad)
     → (bytes : List ℕ) → Reads n now bytes → Reads n Bad (bytes ++ byte ∷ [])
 bad_end n now byte small (inl closed) bytes reads =

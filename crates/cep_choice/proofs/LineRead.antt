@@ -26,7 +26,7 @@ pub record HasRead (n : ℕ) (now : Typed) (taken : ℕ) (come : List ℕ) (even
 abbrev pub ReadsSaid : ℕ → ℕ → Said → ℕ → List ℕ → List Event → List ℕ → Type 0
 ReadsSaid n room said taken come events rest = (cut : Cut) × ReadsLine room come events cut rest taken × IsHeardAs n cut said
 
--- One byte, or the end, behind what was read
+-- One byte, or the end, after what was read
 
 IsUnbroken-push : (bytes : List ℕ) (byte : ℕ) → IsUnbroken bytes → byte ≢ 10 → IsUnbroken (bytes ++ byte ∷ [])
 IsUnbroken-push [] byte unbroken other = (other, tt)

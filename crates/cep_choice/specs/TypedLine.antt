@@ -15,7 +15,7 @@ Chooses n line place = (0 < place) × (place ≤ n) × ((line ≡ decimal place)
 abbrev pub ChoosesNone : ℕ → List ℕ → Type 0
 ChoosesNone n line = (place : ℕ) → Chooses n line place → ⊥
 
--- how the reading of one line ended: at its LF, at the end of the input behind some bytes or behind none, or where no more may be taken
+-- how the reading of one line ended: at its LF, at the end of the input after some bytes or after none, or where no more may be taken
 pub data Cut : Type 0 where
   Ended : (line : List ℕ) → Cut
   Last : (line : List ℕ) → Cut

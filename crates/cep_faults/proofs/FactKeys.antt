@@ -87,7 +87,7 @@ module _ (source : Source) where
       let rest = nodes_keyed ones others parts.1 in
       λ i. (name_key (name i) ++ count_key (count i)) ++ rest i
 
-  -- keys are equal exactly where two atoms are written alike
+  -- keys are equal if and only if two atoms are written alike
   pub keys_tell : (one other : RawAtom) → bytes_eq (atom_key source one) (atom_key source other) ≡ is_written_alike source one other
   keys_tell one other = both_ways (bytes_eq (atom_key source one) (atom_key source other)) (is_written_alike source one other)
       (λ e.
@@ -153,7 +153,7 @@ module _ (source : Source) where
       by true false is follows rest = let never : ◌≡◌ {A = Bool} false true = follows refl in absurd cc
       by false false is follows rest = rest
 
-  -- whether an atom is a fact that counts behind others
+  -- whether an atom is a fact that counts after others
   abbrev pub is_new : List RawAtom → RawAtom → Bool
   is_new atoms a = is_of_fact source a && not (list_any (is_written_alike source a) (facts_counting source atoms))
 

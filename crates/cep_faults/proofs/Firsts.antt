@@ -17,7 +17,7 @@ first_in_append = foremost_append standing
 pub followed : (faults more_ : List Fault) (old item new : Option Fault) → old ≡ first_in faults → item ≡ first_in more_ → new ≡ first_of old item → new ≡ first_in (faults ++ more_)
 followed faults more_ old item new a b is = is ∙ ap (λ (o : Option Fault). first_of o item) a ∙ ap (first_of (first_in faults)) b ∙ sym (first_in_append faults more_)
 
--- one item more of a loop, behind a front
+-- one item more of a loop, after a front
 pub noted : {X : Type 0} (f : X → List Fault) (front : List Fault) (xs : List X) (i : ℕ) (d x : X) (old item new : Option Fault) → i < length xs → x ≡ get_or xs i d
     → old ≡ first_in (front ++ flat_map f (take i xs)) → item ≡ first_in (f x) → new ≡ first_of old item → new ≡ first_in (front ++ flat_map f (take (i + 1) xs))
 noted f front xs i d x old item new h at was is_item is =

@@ -1,4 +1,4 @@
--- The faults of the first trace and of those behind it.
+-- The faults of the first trace and of those after it.
 use Rattle.std.proofs.Common.{◌≡◌, ℕ, ◌+◌, ◌<◌, ◌≤◌, List, [], ◌∷◌, ◌++◌, length, get_or, take, map, Option, Some, refl, ap, sym, ◌∙◌}
 use Rattle.std.proofs.lemmas.List.{map-append, take_more, take_all}
 use Rattle.std.proofs.lemmas.Simd.{map-map}

@@ -1,5 +1,5 @@
 -- Private.
--- Keys of atoms: equal exactly where two atoms are written alike. Each byte of a name stands behind a mark, each argument is a mark, and a stop ends both.
+-- Keys of atoms: equal if and only if two atoms are written alike. Each byte of a name stands after a mark, each argument is a mark, and a stop ends both.
 use Rattle.std.specs.Prelude.{ℕ, List, [], ◌∷◌, ◌++◌, replicate}
 use Rattle.std.specs.List.{flat_map}
 use Rattle.cep_parse.specs.declared.raw.RawNode.{RawNode}

@@ -36,7 +36,7 @@ use Rattle.cep_ground.proofs.Known.{state_atom_here}
 use Rattle.cep_ground.proofs.RuleScopes.{AtomsMade, left_here, right_here, clause_here, atom_of_tokens}
 use Rattle.cep_ground.proofs.StartState.{StartLaws}
 
--- terms, so many in front and so many behind
+-- terms, so many in front and so many after
 record AreSplit (front back : ℕ) (ts : Trees) : Type 0 where
   first : Trees
   rest : Trees

@@ -5,7 +5,7 @@ use Rattle.cep_types.specs.Heads.{Head, var, con}
 use Rattle.cep_infer.specs.Heads.{argument_count, heads_of, heads_among}
 use Rattle.cep_base.proofs.Elements.{contains_cases, contains_none, contains_either}
 
--- two lists of terms that are as many and have the same nodes in front of others are the same
+-- two lists of terms that are as many and have the same nodes before others are the same
 pub record AreSame {A : Type 0} (one other : A) (heads heads' : List Head) : Type 0 where
   pub same : one ≡ other
   pub behind : heads ≡ heads'

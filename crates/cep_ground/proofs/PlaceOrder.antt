@@ -21,7 +21,7 @@ unbroken_both : (one other : List ℕ) → IsUnbroken one → IsUnbroken other �
 unbroken_both [] other here there = there
 unbroken_both (byte ∷ one) other here there = (here.0, unbroken_both one other here.1 there)
 
--- what ends with a line feed ends with one behind each front of it
+-- what ends with a line feed ends with one after each front of it
 last_break : (line : List ℕ) (byte : ℕ) (rest front : List ℕ) → line ++ byte ∷ rest ≡ front ++ 10 ∷ [] → IsUnbroken (byte ∷ rest) → ⊥
 last_break [] byte rest front e all = break_in front (subst IsUnbroken e all)
 last_break (a ∷ line) byte rest [] e all = nothing_left line byte rest (let tail : line ++ byte ∷ rest ≡ [] = cc in tail)

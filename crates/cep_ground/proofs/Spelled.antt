@@ -22,7 +22,7 @@ pub record IsSpelled (text : List ℕ) (token : Token) : Type 0 where
   pub spells : SpellsToken token.kind (slice_of text token.from token.to)
   pub short : IsShort token.kind (slice_of text token.from token.to)
 
--- a word between what stands before and behind it
+-- a word between what stands before and after it
 word_cut : (before gap word behind : List ℕ) (from to : ℕ) → from ≡ length before + length gap → to ≡ from + length word → slice_of (before ++ (gap ++ (word ++ behind))) from to ≡ word
 word_cut before gap word behind from to from_is to_is =
     let size : to - from ≡ length word = omega (arith, to_is) in

@@ -34,7 +34,7 @@ pub atom_alike : (source : Source) (vars others : List (List ℕ)) (blanks more_
 atom_alike source vars others blanks more_ raw atom all by = record { pred = by.pred; count = by.count; heads = by.heads ∙ heads_alike source vars others blanks more_ raw.nodes all }
 
 module _ (source : Source) (vars : List (List ℕ)) where
-  -- What stands behind terms, no deeper than so many levels.
+  -- What stands after terms, no deeper than so many levels.
   record IsBehind (next : List ℕ) (heads : List Head) (most : ℕ) : Type 0 where
     blanks : ℕ
     nodes : List RawNode

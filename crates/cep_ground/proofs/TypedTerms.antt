@@ -40,7 +40,7 @@ module _ (source : Source) (vars : List (List ℕ)) (kinds : List ℕ) (cons : L
   AreGood blanks (wants ∷ next) (first ∷ nodes) =
       IsGood blanks wants first.kind first.at first.args × AreGood (blanks_behind blanks first.kind) (node_types source first.kind first.at ++ next) nodes
 
-  -- what stands behind a term
+  -- what stands after a term
   pub record Behind (next : List (List ℕ)) (heads : List Head) : Type 0 where
     pub blanks : ℕ
     pub nodes : List RawNode
@@ -52,7 +52,7 @@ module _ (source : Source) (vars : List (List ℕ)) (kinds : List ℕ) (cons : L
   var_good kind.Var at args v blanks wants e good = let same : variable_of vars (said source at) ≡ v = cc in subst (λ n. slice_get kinds n ≡ Some (type_number wants)) same good
   var_good kind.Blank at args v blanks wants e good = let same : variable_of vars (codes "_" ++ decimal (blanks + 1)) ≡ v = cc in subst (λ n. slice_get kinds n ≡ Some (type_number wants)) same good
 
-  -- no term stands behind a variable as its argument
+  -- no term stands after a variable as its argument
   no_types : (kind : RawKind) (at : Span) (args v blanks : ℕ) (next : List (List ℕ)) → var v ≡ head_at source vars blanks kind at args → node_types source kind at ++ next ≡ next
   no_types kind.App at args v blanks next e = absurd cc
   no_types kind.Var at args v blanks next e = refl

@@ -51,7 +51,7 @@ sites_whole source (wants ∷ next) (first ∷ nodes) fill known =
     let rest = sites_whole source (node_types source first.kind first.at ++ next) nodes (subst (λ n. Fill n nodes) size fill.1) (λ node there. known node (contains_behind first nodes node there)) in
     ap (λ ns. first ∷ ns) rest
 
--- the terms of two lists of types, one behind the other
+-- the terms of two lists of types, one after the other
 pub wanted_both : (source : Source) (blanks : ℕ) (sites others : List Site) → wanted_from source blanks (sites ++ others) ≡ wanted_from source blanks sites ++ wanted_from source (blanks_after blanks (nodes_at sites)) others
 wanted_both source blanks [] others = refl
 wanted_both source blanks (site ∷ sites) others =
@@ -190,7 +190,7 @@ find_here w rest = ap (λ b. cond b (Some w) (find (λ (x : Wanted). bytes_eq x.
 abbrev pub AreWords : Source → List Site → Type 0
 AreWords source sites = (site : Site) → Contains sites site → site.node.kind ≡ kind.Var → IsWord is_ascii_uppercase (said source site.node.at)
 
--- what occurs at one node, and behind it
+-- what occurs at one node, and after it
 abbrev wanted_at : Source → ℕ → Site → RawKind → List Site → List Wanted
 wanted_at source blanks site shape sites = map (λ occurrence. record { name = occurrence.name; wants = site.wants }) (occurrence_at source blanks site.node.at shape) ++ wanted_from source (blanks_behind blanks shape) sites
 

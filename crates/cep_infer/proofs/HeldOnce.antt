@@ -70,7 +70,7 @@ module _ (laws : BagLaws) (test : AtomTree → Bool) where
         by x Equal is = subst (λ y. held (test y) (count_of more y) ≡ count_of (with_one (once test bag) a) y) (sym (laws.ties x a is)) own
         by x Greater is = aside x Greater is (λ e. cc)
 
-  -- one more atom, behind those that were gathered
+  -- one more atom, after those that were gathered
   module _ (atoms : List AtomTree) (k : ℕ) (a : AtomTree) (old : Multiset) (within : k < length atoms) (at : get_or atoms k a ≡ a) (all : AllByRecursion IsGroundAtom atoms) (was : old ≡ once test (gathered (take k atoms))) where
     abbrev front : Multiset
     front = gathered (take k atoms)

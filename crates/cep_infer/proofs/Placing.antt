@@ -27,7 +27,7 @@ counted_break before byte is = sum_by_push (λ b. cond (b == 10) 1 0) before byt
 counted_more : (before : List ℕ) (byte : ℕ) → byte ≢ 10 → breaks (before ++ byte ∷ []) ≡ breaks before + 0
 counted_more before byte is = sum_by_push (λ b. cond (b == 10) 1 0) before byte ∙ ap (λ b. breaks before + cond b 1 0) (ne_eqb byte 10 is)
 
--- behind an LF
+-- after an LF
 pub place_break : (before : List ℕ) (byte line : ℕ) (pos : Pos) → byte ≡ 10 → line ≡ pos.line + 1 → IsPlaceAfter before pos → IsPlaceAfter (before ++ byte ∷ []) (record { line = line; col = 1 })
 place_break before byte line pos is line_is place = record {
   lines = before ++ 10 ∷ [];
@@ -39,7 +39,7 @@ place_break before byte line pos is line_is place = record {
   col = refl;
 }
 
--- behind another byte
+-- after another byte
 pub place_more : (before : List ℕ) (byte col : ℕ) (pos : Pos) → byte ≢ 10 → col ≡ pos.col + 1 → IsPlaceAfter before pos → IsPlaceAfter (before ++ byte ∷ []) (record { line = pos.line; col = col })
 place_more before byte col pos is col_is place = record {
   lines = place.lines;
@@ -84,7 +84,7 @@ pub start_is : (text : List ℕ) (from start : Reached) (to : ℕ) → IsReached
 start_is text from start to reached (inl further) = subst (λ (r : Reached). IsStart text r to) (sym further.0) (record { before = further.1; reached = reached })
 start_is text from start to reached (inr again) = subst (λ (r : Reached). IsStart text r to) (sym again) (record { before = omega arith; reached = front_is_reached text })
 
--- a place further on, which is said by a number that may lie behind the text
+-- a place further on, which is said by a number that may lie after the text
 pub reached_is : (text : List ℕ) (start : Reached) (at to : ℕ) (pos : Pos) → to ≡ min at (length text) → start.at ≤ to → IsReached text start
     → ((before : List ℕ) → IsPlaceAfter before start.pos → IsPlaceAfter (before ++ slice_range text start.at to) pos) → IsReached text (record { at = to; pos = pos })
 reached_is text start at to pos is h from further = record {

@@ -1,5 +1,5 @@
 -- Private.
--- Atoms and premises that are built one after another, behind others.
+-- Atoms and premises that are built one after another, after others.
 use Rattle.std.specs.Prelude.{◌≡◌, ℕ, not, List, ◌++◌, map, filter}
 use Rattle.cep_parse.specs.declared.raw.RawAtom.{RawAtom}
 use Rattle.cep_parse.specs.declared.raw.RawElem.{RawElem}
@@ -12,14 +12,14 @@ use Rattle.cep_infer.specs.declared.left.LeftSide.{LeftSide}
 use Rattle.cep_infer.specs.Meaning.{ArePremisesBy, is_back}
 use Rattle.cep_source.specs.Variables.{blanks_after}
 
--- Behind the old atoms stand those that are written; so many blanks stand before these, and so many behind them.
+-- After the old atoms stand those that are written; so many blanks stand before these, and so many after them.
 pub record AreBuilt (source : Source) (vars : List (List ℕ)) (raws : List RawAtom) (before behind : ℕ) (old new : List AtomTree) : Type 0 where
   pub more : List AtomTree
   pub new_is : new ≡ old ++ more
   pub are : AreAtomsBy source vars before raws more
   pub behind_is : behind ≡ blanks_after before (raw_nodes raws)
 
--- Behind the old premises stand those that are written, the linear ones and the backward ones.
+-- After the old premises stand those that are written, the linear ones and the backward ones.
 pub record IsLeftBuilt (source : Source) (vars : List (List ℕ)) (side : List RawElem) (before behind : ℕ) (old new : LeftSide) : Type 0 where
   pub more : List PremiseTree
   pub are : ArePremisesBy source vars before side more

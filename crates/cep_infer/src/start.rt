@@ -83,7 +83,7 @@ fn is_repeated(source: &Source, bag: &Bag, atom: &Atom) -> bool
     is_fact(source, atom) && bag.count(atom) > 0
 }
 
-// The multiset of ground atoms, each fact once. Where they rise, each comes behind those that are
+// The multiset of ground atoms, each fact once. Where they rise, each comes after those that are
 // there.
 fn add_all(source: &Source, atoms: &[&Atom]) -> Result<Bag, AllocError>
     requires { AllByRecursion IsGroundAtom (map (λ atom. atom_of atom.now) atoms.now) }

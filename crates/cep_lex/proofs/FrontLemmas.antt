@@ -10,7 +10,7 @@ use Rattle.cep_lex.specs.Fronts.{class, IsFront}
 use Rattle.cep_lex.proofs.Runs.{longest_run}
 use Rattle.cep_lex.proofs.Shapes.{Follows, most_behind, IsShapedAt, shaped_at, shaped_within}
 
--- bytes of which there are some are the first and those behind it
+-- bytes of which there are some are the first and those after it
 first_and_tail : (bytes : List ℕ) → 0 < length bytes → bytes ≡ get_or bytes 0 0 ∷ drop 1 bytes
 first_and_tail [] some = absurd (omega arith)
 first_and_tail (byte ∷ tail) some = refl
@@ -36,18 +36,18 @@ pub no_front : (bytes : List ℕ) → 0 < length bytes → ((run rest : List ℕ
 no_front bytes some nothing kind word rest cut spelled =
     let shape = shaped_front bytes some kind word rest cut spelled in nothing shape.run rest shape.split shape.follows
 
--- the bytes behind the first, as they are passed on
+-- the bytes after the first, as they are passed on
 pub tail_is : (bytes : List ℕ) → take (length bytes - 1) (drop 1 bytes) ≡ drop 1 bytes
 tail_is bytes = take_rest bytes 1
 
--- the longest run behind the first byte ends within the bytes
+-- the longest run after the first byte ends within the bytes
 pub run_within : (p : ℕ → Bool) (bytes : List ℕ) (size : ℕ) → 0 < length bytes → size ≡ prefix_len p (take (length bytes - 1) (drop 1 bytes)) → 1 + size ≤ length bytes
 run_within p [] size some is = absurd (omega arith)
 run_within p (byte ∷ tail) size some is =
     let most = prefix_len-le-length p tail in
     let e : size ≡ prefix_len p tail = is ∙ ap (prefix_len p) (tail_is (byte ∷ tail)) in omega arith
 
--- a first byte and the longest run behind it
+-- a first byte and the longest run after it
 pub run_word : (first p : ℕ → Bool) (bytes : List ℕ) (size : ℕ) → 0 < length bytes → first (get_or bytes 0 0) ≡ true → size ≡ prefix_len p (take (length bytes - 1) (drop 1 bytes)) → Runs first p (take (1 + size) bytes)
 run_word first p [] size some passes is = absurd (omega arith)
 run_word first p (byte ∷ tail) size some passes is =

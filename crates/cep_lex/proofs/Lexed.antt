@@ -117,7 +117,7 @@ class_told byte = by (is_ascii_alphabetic byte) (is_ascii_digit byte) refl refl 
   by false true l d = d
   by false false l d = mark_told byte
 
--- the bytes behind the first, as a run is looked for there
+-- the bytes after the first, as a run is looked for there
 abbrev tail_of : List ℕ → List ℕ
 tail_of bytes = take (length bytes - 1) (drop 1 bytes)
 
@@ -182,7 +182,7 @@ abbrev HasAnswer : List ℕ → Type 0
 HasAnswer text = (answer : Result (List Token) LexFault) × IsLexed text answer
 
 module _ (text : List ℕ) (at gap : ℕ) (tokens : List Token) (within : at ≤ length text) (apart : IsGapLength (take (length text - at) (drop at text)) gap) (cut : Cuts 0 text tokens (drop at text)) where
-  -- behind the gap stands a token, and so on, or no token
+  -- after the gap stands a token, and so on, or no token
   behind_gap : at + gap < length text → ((token : Token) → at < token.to → token.to ≤ length text → Cuts 0 text (tokens ++ token ∷ []) (drop token.to text) → HasAnswer text) → HasAnswer text
   behind_gap stops rest = ⊎_elim
       (λ found. ⊎_elim

@@ -1,4 +1,4 @@
--- The first byte of a token tells what may stand behind it.
+-- The first byte of a token tells what may stand after it.
 use Rattle.std.proofs.Common.{◌≡◌, ℕ, nat_le, suc, ◌+◌, ◌<◌, ◌≤◌, ◌==◌, Bool, true, false, List, [], ◌∷◌, ◌++◌, length, codes, refl, sym, ap, subst, ◌∙◌, arith}
 use Rattle.std.specs.Char.{is_ascii_alphabetic, is_ascii_digit, is_ascii_lowercase, is_ascii_uppercase}
 use Rattle.std.specs.List.{prefix_len}
@@ -12,7 +12,7 @@ use Rattle.cep_lex.specs.Words.{Pass, Runs, SpellsToken}
 use Rattle.cep_lex.specs.Fronts.{class}
 use Rattle.cep_lex.proofs.Runs.{run_is_within}
 
--- what stands behind the first byte of a token
+-- what stands after the first byte of a token
 abbrev pub Follows : Class → List ℕ → Type 0
 Follows Letter run = Pass is_name_byte run
 Follows Digit run = Pass is_ascii_digit run
@@ -21,7 +21,7 @@ Follows (Pair kind second) run = run ≡ second ∷ []
 Follows (Mark kind) run = run ≡ []
 Follows Other run = ⊥
 
--- a byte, and what stands behind it in a token
+-- a byte, and what stands after it in a token
 pub record IsShaped (word : List ℕ) : Type 0 where
   pub byte : ℕ
   pub run : List ℕ
@@ -78,7 +78,7 @@ shaped KwStage word h = record { byte = 115; run = codes "tage"; is = h; follows
 shaped KwContext word h = record { byte = 99; run = codes "ontext"; is = h; follows = (refl, (refl, (refl, (refl, (refl, (refl, tt)))))) }
 shaped KwQui word h = record { byte = 113; run = codes "ui"; is = h; follows = (refl, (refl, tt)) }
 
--- the most bytes of a token behind its first
+-- the most bytes of a token after its first
 abbrev pub most_behind : Class → List ℕ → ℕ
 most_behind Letter tail = prefix_len is_name_byte tail
 most_behind Digit tail = prefix_len is_ascii_digit tail

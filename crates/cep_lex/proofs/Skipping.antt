@@ -1,4 +1,4 @@
--- What stands behind the gap at the front of bytes is a function of the bytes.
+-- What stands after the gap at the front of bytes is a function of the bytes.
 use Rattle.std.proofs.Common.{◌≡◌, ℕ, ◌==◌, ◌||◌, Bool, true, false, cond, List, [], ◌∷◌, ◌++◌, refl, sym, ap, subst, ◌∙◌, ⊎_elim, append_assoc}
 use Rattle.std.proofs.lemmas.Bool.{or_cases, eqb-true, ne_eqb, false_from_ne_true}
 use Rattle.std.proofs.lemmas.List.{append-nil}
@@ -9,7 +9,7 @@ use Rattle.cep_lex.specs.Cuts.IsGap.{empty, separator, comment}
 use Rattle.cep_lex.specs.Fronts.{class}
 use Rattle.cep_lex.proofs.Shapes.{Follows, shaped}
 
--- what stands behind the gap, from outside comments or from within one
+-- what stands after the gap, from outside comments or from within one
 abbrev pub behind_gap : Bool → List ℕ → List ℕ
 behind_gap in_comment [] = []
 behind_gap true (byte ∷ bytes) = cond (byte == 10) (behind_gap false bytes) (behind_gap true bytes)
@@ -45,7 +45,7 @@ skip_last bytes is =
     (λ gap. ap (behind_gap false) (sym (append-nil bytes)) ∙ skip_gap bytes [] gap)
     (λ open_. ap (behind_gap false) open_.2 ∙ skip_gap open_.0 (37 ∷ open_.1) open_.3 ∙ skip_open open_.1 open_.4) is
 
--- a byte that is in no gap stands behind it
+-- a byte that is in no gap stands after it
 pub skip_to : (bytes gap : List ℕ) (byte : ℕ) (rest : List ℕ) → bytes ≡ gap ++ byte ∷ rest → IsGap gap → (is_separator byte ≡ true → ⊥) → (byte ≡ 37 → ⊥) → behind_gap false bytes ≡ byte ∷ rest
 skip_to bytes gap byte rest cut apart no_separator no_comment =
     ap (behind_gap false) cut ∙ skip_gap gap (byte ∷ rest) apart ∙ rw (ne_eqb byte 37 no_comment, false_from_ne_true _ no_separator) refl
@@ -58,7 +58,7 @@ first_no_separator byte run follows separates =
 first_no_comment : (byte : ℕ) (run : List ℕ) → Follows (class byte) run → byte ≡ 37 → ⊥
 first_no_comment byte run follows is = let h : Follows (class 37) run = subst (λ b. Follows (class b) run) is follows in h
 
--- a token stands behind its gap
+-- a token stands after its gap
 pub skip_to_token : (bytes gap : List ℕ) (kind : TokenKind) (word rest : List ℕ) → Splits bytes gap kind word rest → behind_gap false bytes ≡ word ++ rest
 skip_to_token bytes gap kind word rest is =
     let shape = shaped kind word is.spelled in

@@ -24,7 +24,7 @@ cut_more at bytes [] rest from token behind cut place starts =
 cut_more at bytes (first ∷ tokens) rest from token behind cut place starts =
     (cut.0, cut.1, cut_more first.to cut.0 tokens rest from token behind cut.2 (place ∙ sym (length_start at bytes first cut.0 cut.1)) starts)
 
--- the token at the front of what stands behind a gap
+-- the token at the front of what stands after a gap
 pub split_front : (bytes : List ℕ) (gap : ℕ) (kind : TokenKind) (size : ℕ) (before : IsGapBefore bytes gap) → IsFront (drop gap bytes) kind size → Splits bytes before.gap kind (take size (drop gap bytes)) (drop size (drop gap bytes))
 split_front bytes gap kind size before front = record {
   cut = before.cut ∙ ap (λ b. before.gap ++ b) (sym before.next ∙ sym (take-append-drop size (drop gap bytes)));
@@ -41,7 +41,7 @@ short_text kind size word is short = ⊎_elim (λ number. inl number) (λ within
 from_here : (P : List ℕ → Type 0) (text : List ℕ) (at : ℕ) → P (take (length text - at) (drop at text)) → P (drop at text)
 from_here P text at is = subst P (take_rest text at) is
 
--- the bytes behind a gap, as they are passed on
+-- the bytes after a gap, as they are passed on
 behind_gap : (P : List ℕ → Type 0) (text : List ℕ) (at gap : ℕ) → P (take (length text - (at + gap)) (drop (at + gap) text)) → P (drop gap (drop at text))
 behind_gap P text at gap is = subst P (take_rest text (at + gap) ∙ sym (drop-drop gap at text)) is
 
@@ -128,6 +128,6 @@ module _ (text : List ℕ) (at gap : ℕ) (within : at + gap < length text) (apa
       let s = left_here in
       (omega (arith, front.some), omega (arith, front.within))
 
--- what stands behind a token that ends in the text
+-- what stands after a token that ends in the text
 pub cut_next : (text : List ℕ) (at : ℕ) (tokens : List Token) (token : Token) → at ≤ length text → Cuts 0 text tokens (drop at text) → StartsWith at (drop at text) token (drop token.to text) → Cuts 0 text (tokens ++ token ∷ []) (drop token.to text)
 cut_next text at tokens token within cut starts = cut_more 0 text tokens (drop at text) at token (drop token.to text) cut (let s = length-drop at text in omega arith) starts

@@ -32,11 +32,11 @@ same_front bytes one other =
     let rest : one.rest ≡ other.rest = sym (drop-append_seam one.word one.rest) ∙ ap (drop (length one.word)) e ∙ ap (λ n. drop n (other.word ++ other.rest)) size ∙ drop-append_seam other.word other.rest in
     (same_kind one.kind other.kind other.word (subst (SpellsToken one.kind) word one.spelled) other.spelled, word, rest)
 
--- the token behind a gap
+-- the token after a gap
 abbrev front_of : (bytes gap : List ℕ) (kind : TokenKind) (word rest : List ℕ) → Splits bytes gap kind word rest → IsAtFront (behind_gap false bytes)
 front_of bytes gap kind word rest is = record { kind = kind; word = word; rest = rest; cut = skip_to_token bytes gap kind word rest is; spelled = is.spelled; longest = is.longest }
 
--- a gap is told by what stands behind it
+-- a gap is told by what stands after it
 same_gap : (bytes gap gap' behind behind' : List ℕ) → bytes ≡ gap ++ behind → bytes ≡ gap' ++ behind' → behind ≡ behind' → gap ≡ gap'
 same_gap bytes gap gap' behind behind' one other e = append_cancel_right gap gap' behind' (ap (λ b. gap ++ b) (sym e) ∙ sym one ∙ other)
 

@@ -17,18 +17,18 @@ pub data IsGap : List ℕ → Type 0 where
   separator : (byte : ℕ) (gap : List ℕ) → IsTrue (is_separator byte) → IsGap gap → IsGap (byte ∷ gap)
   comment : (body gap : List ℕ) → IsUnbroken body → IsGap gap → IsGap (37 ∷ (body ++ 10 ∷ gap))
 
--- What stands behind the last token: a gap, whose last comment may end with the text.
+-- What stands after the last token: a gap, whose last comment may end with the text.
 abbrev pub IsLastGap : List ℕ → Type 0
 IsLastGap bytes = IsGap bytes ⊎ ((gap : List ℕ) × (body : List ℕ) × (bytes ≡ gap ++ 37 ∷ body) × IsGap gap × IsUnbroken body)
 
--- The bytes are a gap, a token of this kind, as long as it can be, and what stands behind it.
+-- The bytes are a gap, a token of this kind, as long as it can be, and what stands after it.
 pub record Splits (bytes gap : List ℕ) (kind : TokenKind) (word behind : List ℕ) : Type 0 where
   pub cut : bytes ≡ gap ++ (word ++ behind)
   pub apart : IsGap gap
   pub spelled : SpellsToken kind word
   pub longest : IsLongest word behind
 
--- The bytes from this place on are a gap, this token, and what stands behind it.
+-- The bytes from this place on are a gap, this token, and what stands after it.
 pub record StartsWith (at : ℕ) (bytes : List ℕ) (token : Token) (behind : List ℕ) : Type 0 where
   pub gap : List ℕ
   pub word : List ℕ
@@ -48,7 +48,7 @@ pub record AreTokens (text : List ℕ) (tokens : List Token) : Type 0 where
   pub cut : Cuts 0 text tokens rest
   pub last : IsLastGap rest
 
--- Behind some tokens and a gap, at this place, stands a byte that begins no token, no comment, and separates none.
+-- After some tokens and a gap, at this place, stands a byte that begins no token, no comment, and separates none.
 pub record IsBadByte (text : List ℕ) (at : ℕ) : Type 0 where
   pub tokens : List Token
   pub rest : List ℕ
@@ -63,7 +63,7 @@ pub record IsBadByte (text : List ℕ) (at : ℕ) : Type 0 where
   pub no_token : BeginsNoToken (byte ∷ behind)
   pub place : at + length (byte ∷ behind) ≡ length text
 
--- Behind some tokens and a gap, at this place, begins a name that is too long.
+-- After some tokens and a gap, at this place, begins a name that is too long.
 pub record IsNameLong (text : List ℕ) (at : ℕ) : Type 0 where
   pub tokens : List Token
   pub rest : List ℕ

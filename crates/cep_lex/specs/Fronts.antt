@@ -48,7 +48,7 @@ BeginsWith (Pair kind second) byte = SpellsToken kind (byte ∷ second ∷ [])
 BeginsWith (Mark kind) byte = SpellsToken kind (byte ∷ [])
 BeginsWith Other byte = Unit {0}
 
--- this byte stands behind the first
+-- this byte stands after the first
 abbrev pub HasSecond : List ℕ → ℕ → Type 0
 HasSecond bytes second = (first : ℕ) × (rest : List ℕ) × (bytes ≡ first ∷ second ∷ rest)
 

@@ -43,7 +43,7 @@ SpellsToken KwStage word = word ≡ codes "stage"
 SpellsToken KwContext word = word ≡ codes "context"
 SpellsToken KwQui word = word ≡ codes "qui"
 
--- The word is as long as it can be: no longer front of it and what stands behind it spells a token.
+-- The word is as long as it can be: no longer front of it and what stands after it spells a token.
 abbrev pub IsLongest : List ℕ → List ℕ → Type 0
 IsLongest word behind = (kind : TokenKind) (other rest : List ℕ) → word ++ behind ≡ other ++ rest → SpellsToken kind other → length other ≤ length word
 

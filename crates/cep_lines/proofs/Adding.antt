@@ -30,7 +30,7 @@ adding_done start whole now left so_far none =
 pub adding_stops : (start whole now left new : List ℕ) → IsAdding start whole now left → new ≡ now → IsBegun start whole new
 adding_stops start whole now left new so_far same = record { front = so_far.front; rest = left; cut = sym so_far.cut; added = same ∙ so_far.added }
 
--- a front of one piece more was added
+-- a prefix of one piece more was added
 pub adding_breaks : (start whole now left piece later new : List ℕ) → IsAdding start whole now left → left ≡ piece ++ later → IsBegun now piece new → IsBegun start whole new
 adding_breaks start whole now left piece later new so_far is begun = record {
   front = so_far.front ++ begun.front;

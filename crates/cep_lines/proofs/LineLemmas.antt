@@ -11,7 +11,7 @@ use Rattle.cep_lines.proofs.Adding.{IsAdding, adding_none, adding_next}
 none_some : {A B : Type 0} (x : A) → ◌≡◌ {A = Option A} None (Some x) → B
 none_some x e = cc
 
--- the items from a place on are the one there and those behind
+-- the items from a place on are the one there and those after
 drop_at-suc : {A : Type 0} (xs : List A) (k : ℕ) (x : A) → slice_get xs k ≡ Some x → drop k xs ≡ x ∷ drop (suc k) xs
 drop_at-suc [] k x is = none_some x is
 drop_at-suc (y ∷ xs) zero x is = let same : Some y ≡ Some x = is in cc

@@ -24,7 +24,7 @@ pub told_none : {A : Type 0} (r : Option A) (P : Type 0) → r ≡ None → Matc
 told_none None P e p = p
 told_none (Some x) P e p = absurd cc
 
--- what stands behind the first word of a line of a listing
+-- what stands after the first word of a line of a listing
 pub counted_as : (line rest word behind : List ℕ) (count : ℕ) (text : List ℕ) → line ≡ codes "have " ++ rest → rest ≡ word ++ behind → HasNone 32 word → Stops 32 behind → count ≤ MOST_COPIES → line ≡ codes "have " ++ (decimal count ++ 32 ∷ text)
     → (word ≡ decimal count) × (behind ≡ 32 ∷ text)
 counted_as line rest word behind count text is cut none stops few said =
@@ -32,7 +32,7 @@ counted_as line rest word behind count text is cut none stops few said =
     let same : rest ≡ decimal count ++ 32 ∷ text = cc in
     one_parting 32 word (decimal count) behind (32 ∷ text) none (decimal_unspaced count (omega arith)) stops (inr (text, refl)) (sym cut ∙ same)
 
--- the text behind the count is that of no atom
+-- the text after the count is that of no atom
 pub have_none : (program : Parts) (line text : List ℕ) (count : ℕ) (entry : AtomTree × ℕ) → count ≤ MOST_COPIES → line ≡ codes "have " ++ (decimal count ++ 32 ∷ text) → ((a : AtomTree) → ¬ (IsAtomText program text a)) → IsHaveLine program line entry → ⊥
 have_none program line text count entry few is none said =
     let h : codes "have " ++ (decimal count ++ 32 ∷ text) ≡ codes "have " ++ (decimal entry.1 ++ 32 ∷ said.text) = sym is ∙ said.written in

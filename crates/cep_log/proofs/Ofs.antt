@@ -31,7 +31,7 @@ all_pushed : {A : Type 0} (P : A → Type 0) (xs : List A) (x : A) → AllByRecu
 all_pushed P [] x all this = (this, tt)
 all_pushed P (y ∷ xs) x all this = (all.0, all_pushed P xs x all.1 this)
 
--- the atom stands behind each that stands before the last
+-- the atom stands after each that stands before the last
 abbrev pub Transitive : Type 0
 Transitive = (a b c : AtomTree) → atom_cmp a b ≡ Less → atom_cmp b c ≡ Less → atom_cmp a c ≡ Less
 

@@ -48,7 +48,7 @@ digits_unspaced (byte ∷ digits) t =
 pub decimal_unspaced : (n : ℕ) → n < 2 ^ 64 → HasNone 32 (decimal n)
 decimal_unspaced n short = digits_unspaced (decimal n) (digits_decimal (numerals_by_value (λ digits. all_ascii_digits digits ≡ true) tells_all_ascii_digits) n short)
 
--- the count and the text behind it
+-- the count and the text after it
 pub one_count : (m n : ℕ) (text text' : List ℕ) → m ≤ MOST_COPIES → n ≤ MOST_COPIES → decimal m ++ (32 ∷ text) ≡ decimal n ++ (32 ∷ text') → (m ≡ n) × (text ≡ text')
 one_count m n text text' a b e =
     let parted = one_parting 32 (decimal m) (decimal n) (32 ∷ text) (32 ∷ text') (decimal_unspaced m (omega arith)) (decimal_unspaced n (omega arith)) (inr (text, refl)) (inr (text', refl)) e in

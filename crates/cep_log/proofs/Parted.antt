@@ -7,7 +7,7 @@ use Rattle.std.proofs.lemmas.Bool.{cases_eq}
 abbrev pub HasNone : ℕ → List ℕ → Type 0
 HasNone stop bytes = AllByRecursion (λ byte. byte ≢ stop) bytes
 
--- nothing stands behind, or the stop byte does
+-- nothing stands after, or the stop byte does
 abbrev pub Stops : ℕ → List ℕ → Type 0
 Stops stop rest = (rest ≡ []) ⊎ ((behind : List ℕ) × (rest ≡ stop ∷ behind))
 

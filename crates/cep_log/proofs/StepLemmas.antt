@@ -20,7 +20,7 @@ pub told_some : {A : Type 0} (r : Option A) (x : A) (P : A → Type 0) → r ≡
 told_some None x P e p = absurd cc
 told_some (Some y) x P e p = let same : y ≡ x = cc in subst P same p
 
--- the one line of a listing does not stand behind the others
+-- the one line of a listing does not stand after the others
 pub listed_none : (program : Parts) (laws : OneValue program) (line : List ℕ) (entries : List (AtomTree × ℕ)) (entry other : AtomTree × ℕ) → IsHaveLine program line entry → ¬ (IsBehind entries entry.0) → IsHaveLine program line other → IsBehind entries other.0 → ⊥
 listed_none program laws line entries entry other said early said' behind =
     early (subst (λ (e : AtomTree × ℕ). IsBehind entries e.0) (one_have program laws line other entry said' said) behind)
@@ -30,17 +30,17 @@ pub nothing_begins : (program : Parts) (number : ℕ) (line : List ℕ) (log : L
 nothing_begins program number line log no_end no_step new (inl step) = no_step step.offer step.said
 nothing_begins program number line log no_end no_step new (inr end) = no_end end.word end.said
 
--- nothing behind a start listing goes on with the line
+-- nothing after a start listing goes on with the line
 pub nothing_behind_start : (program : Parts) (number : ℕ) (line : List ℕ) (log : Log) → ((entry : AtomTree × ℕ) → IsHaveLine program line entry → IsBehind log.start entry.0 → ⊥) → ((new : SoFar) → ¬ (BeginsNext program number line log new)) → (new : SoFar) → ¬ (Becomes program number line (Whole log) new)
 nothing_behind_start program number line log unlisted none new (inl start) = unlisted start.listed.entry start.listed.said start.listed.behind
 nothing_behind_start program number line log unlisted none new (inr next) = none new next
 
--- nor behind whole steps
+-- nor after whole steps
 pub nothing_behind_steps : (program : Parts) (number : ℕ) (line : List ℕ) (log : Log) → (log.steps ≡ [] → ⊥) → ((new : SoFar) → ¬ (BeginsNext program number line log new)) → (new : SoFar) → ¬ (Becomes program number line (Whole log) new)
 nothing_behind_steps program number line log some none new (inl start) = some start.first
 nothing_behind_steps program number line log some none new (inr next) = none new next
 
--- nor behind a listing in the middle
+-- nor after a listing in the middle
 pub nothing_behind_mid : (program : Parts) (number : ℕ) (line : List ℕ) (log : Log) (step : LogStep) (mid : LogMid) (longer : Log) → longer ≡ log_listed log step mid
     → ((entry : AtomTree × ℕ) → IsHaveLine program line entry → IsBehind mid.state entry.0 → ⊥) → ((new : SoFar) → ¬ (BeginsNext program number line longer new)) → (new : SoFar) → ¬ (Becomes program number line (Listed log step mid) new)
 nothing_behind_mid program number line log step mid longer is unlisted none new (inl goes) = unlisted goes.listed.entry goes.listed.said goes.listed.behind

@@ -62,9 +62,9 @@ remarks_one : (lines : List (List ℕ)) → AllByRecursion IsRemark lines → Al
 remarks_one [] all = tt
 remarks_one (remark ∷ lines) all = (all.0.one, remarks_one lines all.1)
 
--- Listings behind steps
+-- Listings after steps
 
--- The lines are read as the step's listing, behind which all of the log stands.
+-- The lines are read as the step's listing, after which all of the log stands.
 record ReadsMid (program : Parts) (number : ℕ) (lines : List (List ℕ)) (log : Log) (own : LogStep) (mid : Option LogMid) : Type 0 where
   read : Option LogMid
   lists : ListTheSame mid read
@@ -95,7 +95,7 @@ mid_told program number log own (Some mid) unlisted listing wants =
 
 -- Steps
 
--- The lines are read as the step, behind which all of the log stands.
+-- The lines are read as the step, after which all of the log stands.
 record ReadsStep (program : Parts) (number : ℕ) (lines : List (List ℕ)) (old : SoFar) (log : Log) (step : LogStep) : Type 0 where
   read : LogStep
   says : SayTheSame step read
@@ -188,7 +188,7 @@ not_over Two over = omega (arith, over)
 abbrev log_started : Log → Log
 log_started log = record (log_begun log.version log.height 3 log.stage) { start = log.start }
 
--- The lines are read as the end, behind which nothing is left.
+-- The lines are read as the end, after which nothing is left.
 record ReadsEnd (program : Parts) (number : ℕ) (lines : List (List ℕ)) (old : SoFar) (log : Log) (end : LogEnd) : Type 0 where
   read : LogEnd
   word : end.word ≡ read.word

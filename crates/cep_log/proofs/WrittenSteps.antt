@@ -18,7 +18,7 @@ use Rattle.cep_log.specs.declared.so_far.SoFar.TheVariants.{Nothing, Begun, Heig
 use Rattle.cep_log.specs.Transcript.{IsByLine, BeginsNext, Becomes, MovesOn, Leads, IsReadable, stage_texts, has_own_lines, with_own, with_step, step_begun, log_listed}
 use Rattle.cep_base.proofs.Lists.{none_some, some_same}
 
--- the log behind which a step or the end is next
+-- the log after which a step or the end is next
 abbrev pub whole_log : SoFar → Option Log
 whole_log Nothing = None
 whole_log (Begun version) = None
@@ -29,7 +29,7 @@ whole_log (Unlisted log step) = None
 whole_log (Listed log step mid) = Some (log_listed log step mid)
 whole_log (Ended log end) = None
 
--- What begins behind the log may stand next.
+-- What begins after the log may stand next.
 pub next_stands : (program : Parts) (number : ℕ) (line : List ℕ) (so_far : SoFar) (log : Log) (new : SoFar) → whole_log so_far ≡ Some log → BeginsNext program number line log new → Becomes program number line so_far new
 next_stands program number line Nothing log new whole next = none_some log whole
 next_stands program number line (Begun version) log new whole next = none_some log whole
@@ -69,7 +69,7 @@ module _ (program : Parts) (log : Log) (rule : Rule) where
   joined_within : (step : LogStep) → has_own_lines rule step ≡ false → with_step rule log step ≡ Within log step
   joined_within step own = ap (λ (is : Bool). cond is (with_own log step) (Within log step)) own
 
-  -- the stage behind all derivations
+  -- the stage after all derivations
   stage_read : (n : ℕ) (step : LogStep) (next : Option ℕ) → rule.next ≡ next → slice_get program.rules step.offer.rule ≡ Some rule → step.stage ≡ None → length step.proofs ≡ length rule.backs
       → ((stage : ℕ) → next ≡ Some stage → stage < length program.stages)
       → Leads program n (stage_texts program next) (with_step rule log step) (with_own log (record step { stage = next }))

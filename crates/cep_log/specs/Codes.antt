@@ -7,7 +7,7 @@ use Rattle.cep_term.specs.Tree.{Tree, AtomTree}
 use Rattle.cep_term.specs.Codes.{tree_code, atom_code}
 use Rattle.cep_rule.specs.Derivations.{ProofTree, ProofTrees, by_clause, no_goal, goal_by}
 
--- the nodes of a derivation, in front of others
+-- the nodes of a derivation, before others
 abbrev mutual
   pub node_list : ProofTree → List (ℕ × List Tree) → List (ℕ × List Tree)
   node_list (by_clause number values subs) behind = (number, values) ∷ node_lists subs behind
@@ -23,7 +23,7 @@ no_other_goal k l same =
     let numbers : ◌≡◌ {A = ℕ} 0 1 = ap (λ node. node.0) head in
     absurd (omega arith)
 
--- Lists that begin with derivations and are equal have equal derivations, and the same behind them.
+-- Lists that begin with derivations and are equal have equal derivations, and the same after them.
 mutual
   pub node_list_injective : (d e : ProofTree) (k l : List (ℕ × List Tree)) → node_list d k ≡ node_list e l → (d ≡ e) × (k ≡ l)
   node_list_injective (by_clause m us ds) (by_clause n vs es) k l same =

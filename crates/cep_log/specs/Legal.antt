@@ -40,7 +40,7 @@ pub record IsListing (signature : Signature) (entries : List (AtomTree × ℕ)) 
   pub each : AllByRecursion (IsHave signature) entries
   pub rising : AtomsRise entries
 
--- A step is of a program: it has a rule of the program with one value for each of its variables, one derivation for each backward premise, none too high, a stage exactly where the rule leaves one, and after it a listing or none.
+-- A step is of a program: it has a rule of the program with one value for each of its variables, one derivation for each backward premise, none too high, a stage if and only if the rule leaves one, and after it a listing or none.
 pub record IsStepOf (program : Parts) (step : LogStep) : Type 0 where
   pub rule : Rule
   pub numbered : slice_get program.rules step.offer.rule ≡ Some rule
@@ -67,7 +67,7 @@ pub record IsLogOf (program : Parts) (log : Log) : Type 0 where
   pub lines : log.lines ≤ MOST_LOG
   pub few : length log.steps ≤ log.lines
 
--- A step is legal from one spot to another: it is a step of the machine within the height, the stage that is written below it is the one that its rule names, and a listing behind it is that of the state where it leads.
+-- A step is legal from one spot to another: it is a step of the machine within the height, the stage that is written below it is the one that its rule names, and a listing after it is that of the state where it leads.
 pub record IsLegalStep (program : Parts) (height : ℕ) (old new : Spot) (step : LogStep) : Type 0 where
   pub rule : Rule
   pub machine : IsMachineStep program height old new step.offer rule step.proofs

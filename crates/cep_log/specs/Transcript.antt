@@ -86,7 +86,7 @@ pub record IsByLine (program : Parts) (line : List ℕ) (proof : ProofTree) : Ty
 abbrev pub IsEndLine : List ℕ → EndWord → Type 0
 IsEndLine line word = line ≡ end_text word
 
--- The atom stands behind the last atom of the listing.
+-- The atom stands after the last atom of the listing.
 abbrev pub IsBehind : List (AtomTree × ℕ) → AtomTree → Type 0
 IsBehind entries atom = IfSome (slice_get entries (length entries - 1)) (λ last. atom_cmp last.0 atom ≡ Less)
 
@@ -109,7 +109,7 @@ step_begun number offer = record { line = number; offer = offer; proofs = []; st
 abbrev pub mid_begun : ℕ → LogMid
 mid_begun number = record { line = number; state = [] }
 
--- the number of the step that stands behind all of the log
+-- the number of the step that stands after all of the log
 abbrev pub next_number : Log → ℕ
 next_number log = length log.steps + 1
 
@@ -177,7 +177,7 @@ pub record GoesOnEnd (program : Parts) (line : List ℕ) (log : Log) (end : LogE
   pub listed : GoesOnListing program line end.state state
   pub ended : new ≡ Ended log (record end { state = state })
 
--- The line begins what stands behind the log: a step, or the end.
+-- The line begins what stands after the log: a step, or the end.
 abbrev pub BeginsNext : Parts → ℕ → List ℕ → Log → SoFar → Type 0
 BeginsNext program number line log new = BeginsStep program number line log new ⊎ BeginsEnd number line log new
 
@@ -257,7 +257,7 @@ pub record IsFirstMisfit (program : Parts) (lines : List (List ℕ)) (fault : Lo
   pub nowhere : (new : SoFar) → ¬ MovesOn program (length before + 1) line so_far new
   pub fault_is : IsFaultOf program (length before + 1) line so_far fault
 
--- The lines stop too early: they lead to where no transcript ends, and the fault is told at the line behind them.
+-- The lines stop too early: they lead to where no transcript ends, and the fault is told at the line after them.
 pub record StopsEarly (program : Parts) (lines : List (List ℕ)) (fault : LogFault) : Type 0 where
   pub last : SoFar
   pub leads : Leads program 1 lines Nothing last

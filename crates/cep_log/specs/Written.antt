@@ -16,7 +16,7 @@ abbrev pub start_texts : Parts → Log → List (List ℕ)
 start_texts program log =
     version_text log.version ∷ (height_text log.height ∷ (stage_text program log.stage ∷ map (have_text program.signature) log.start))
 
--- the lines of the listing behind the step of a number, where it has one
+-- the lines of the listing after the step of a number, where it has one
 abbrev pub mid_texts : Parts → ℕ → Option LogMid → List (List ℕ)
 mid_texts program number None = []
 mid_texts program number (Some mid) = state_text number ∷ map (have_text program.signature) mid.state
@@ -36,7 +36,7 @@ abbrev pub end_texts : Parts → Option LogEnd → List (List ℕ)
 end_texts program None = []
 end_texts program (Some end) = end_text end.word ∷ map (have_text program.signature) end.state
 
--- the text of a log: its lines, each with an LF behind it, and none that is passed over
+-- the text of a log: its lines, each with an LF after it, and none that is passed over
 abbrev pub text_of : Parts → Log → List ℕ
 text_of program log = flat_map line (start_texts program log ++ (steps_texts program 1 log.steps ++ end_texts program log.end))
 
@@ -72,7 +72,7 @@ ListTheSame None (Some other) = ⊥
 ListTheSame (Some one) None = ⊥
 ListTheSame (Some one) (Some other) = one.state ≡ other.state
 
--- Two steps say the same: they do the same, and the same is listed behind them.
+-- Two steps say the same: they do the same, and the same is listed after them.
 pub record SayTheSame (one other : LogStep) : Type 0 where
   pub does : DoTheSame one other
   pub lists : ListTheSame one.mid other.mid

@@ -66,7 +66,7 @@ fn mid_begun(alloc: Global, number: u32) -> LogMid
     }
 }
 
-// What the lines so far say, where a transcript may end behind them.
+// What the lines so far say, where a transcript may end after them.
 pub(crate) fn finished(so_far: SoFar, lines: u32) -> Result<Option<Log>, AllocError>
     ensures { IfOk result (λ said. said ≡ said_by so_far lines) }
 {
@@ -102,7 +102,7 @@ fn log_listed(mut log: Log, mut step: LogStep, mid: LogMid) -> Result<Log, Alloc
     Ok(log)
 }
 
-// A line behind the start listing or behind a whole step.
+// A line after the start listing or after a whole step.
 pub(crate) fn behind_whole(
     alloc: Global,
     vocabulary: &Vocabulary,
@@ -128,7 +128,7 @@ pub(crate) fn behind_whole(
     }
 }
 
-// A line behind a step with its listing.
+// A line after a step with its listing.
 pub(crate) fn behind_listed(
     alloc: Global,
     vocabulary: &Vocabulary,
@@ -191,7 +191,7 @@ fn end_begun(alloc: Global, number: u32, word: EndWord) -> LogEnd
     }
 }
 
-// The first line of the listing behind a step.
+// The first line of the listing after a step.
 pub(crate) fn behind_unlisted(
     alloc: Global,
     number: u32,
@@ -211,7 +211,7 @@ pub(crate) fn behind_unlisted(
     }
 }
 
-// The number of the step that stands behind all of the log.
+// The number of the step that stands after all of the log.
 fn next_number(log: &Log) -> u32
     requires { HasRoom 0 log.now }
     ensures { result ≡ next_number log.now }
@@ -305,7 +305,7 @@ fn has_own_lines(rule: &Rule, step: &LogStep) -> bool
     rule.backs.len() <= step.proofs.len() && (rule.next.is_none() || step.stage.is_some())
 }
 
-// The line of a listing that stands behind these.
+// The line of a listing that stands after these.
 fn next_listed(
     alloc: Global,
     vocabulary: &Vocabulary,
@@ -334,7 +334,7 @@ fn next_listed(
     }
 }
 
-// Whether the line stands behind these.
+// Whether the line stands after these.
 fn is_behind(haves: &Haves, have: &Have) -> bool
     ensures { IsTrue result ↔ IsBehind haves.now (have_of have.now).0 }
 {

@@ -81,7 +81,7 @@ pub(crate) fn have_line(
     }
 }
 
-// The count that a line of a listing says, and the text behind it.
+// The count that a line of a listing says, and the text after it.
 fn counted(line: &[u8]) -> Option<(u32, &[u8])>
     ensures { MatchOption result
         ((count : ℕ) (text : List ℕ) → 1 ≤ count → count ≤ MOST_COPIES

@@ -72,7 +72,7 @@ impl Haves {
         self.haves.as_slice()
     }
 
-    /// Adds a line at the end. After want of memory the listing is as before, and the line is gone.
+    /// Adds a line at the end. After out of memory the listing is as before, and the line is gone.
     pub fn push(&mut self, have: Have) -> Result<(), AllocError>
         ensures ok { OnOk result (self.new ≡ self.old ++ have_of have ∷ []) }
         ensures err { OnErr result (self.new ≡ self.old) }

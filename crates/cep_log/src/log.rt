@@ -20,7 +20,7 @@ pub struct Log {
     /// The listing of the start state.
     pub start: Haves,
     pub steps: LogSteps,
-    /// None where the transcript stops behind the start listing or behind a whole step.
+    /// None where the transcript stops after the start listing or after a whole step.
     pub end: Option<LogEnd>,
     /// How many lines the transcript has, those that are passed over included.
     pub lines: u32,
@@ -49,8 +49,8 @@ impl Drop for Log {
 pub type LogSteps = List<LogStep>;
 
 /// A step of a log: the number of its line, the offer, a derivation for each backward premise of the
-/// offer's rule, the stage that is written below it, which stands there exactly where the rule
-/// leaves a stage, and the listing of the state after it, which stands there exactly where the
+/// offer's rule, the stage that is written below it, which stands there if and only if the rule
+/// leaves a stage, and the listing of the state after it, which stands there if and only if the
 /// version lists it.
 pub struct LogStep {
     pub line: u32,
@@ -76,7 +76,7 @@ impl Drop for LogStep {
     }
 }
 
-/// A listing behind a step: the number of its first line, and what it lists.
+/// A listing after a step: the number of its first line, and what it lists.
 pub struct LogMid {
     pub line: u32,
     pub state: Haves,

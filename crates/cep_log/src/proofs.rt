@@ -64,7 +64,7 @@ impl Proofs {
         self.proofs.as_slice()
     }
 
-    /// Adds a derivation at the end. After want of memory the list is as before, and the derivation
+    /// Adds a derivation at the end. After out of memory the list is as before, and the derivation
     /// is gone.
     pub fn push(&mut self, proof: Derivation) -> Result<(), AllocError>
         ensures ok { OnOk result (self.new ≡ self.old ++ proof_of proof ∷ []) }

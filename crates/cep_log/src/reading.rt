@@ -27,8 +27,8 @@ use std::alloc::{AllocError, Global};
 ///
 /// `LogFault::NoRule` comes where a step may stand, and the line begins like one, of a rule that the
 /// program has not got; `LogFault::Line` comes at every other line that does not fit, and at the
-/// line behind the last where the header or the own lines of a step are not complete. Besides these
-/// only want of memory is refused.
+/// line after the last where the header or the own lines of a step are not complete. Besides these
+/// only out of memory is refused.
 pub fn read_log(
     alloc: Global,
     program: &Program,

@@ -12,7 +12,7 @@ use cep_rule::Matcher;
 impl<M: Matcher> Config<M> {
     /// The group that is asked, as Ceptre's stages do: that of the stage's own rules where one of
     /// them applies, and else that of the rules that leave the stage where one of those does.
-    /// `None` comes exactly where the configuration is quiet. It takes no memory.
+    /// `None` comes if and only if the configuration is quiet. It takes no memory.
     pub fn asked(&self) -> Option<u32>
         ensures asked { (program : Parts)
             → IsConfigurationOf M.is_of program self.now

@@ -12,7 +12,7 @@ use std::sync::ledger::Ledger;
 
 impl<M: Matcher> Config<M> {
     /// The configuration in which a run of the program begins: its start stage and its start state,
-    /// no turn done, and a matcher within this height, from 1 to 512. Only want of memory is
+    /// no turn done, and a matcher within this height, from 1 to 512. Only out of memory is
     /// refused.
     pub fn begin<L: Ledger>(
         alloc: Global,

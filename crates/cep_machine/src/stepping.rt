@@ -23,7 +23,7 @@ impl<M: Matcher> Config<M> {
     /// which limit it would pass. A step is Ceptre's; the limits are this profile's. Fewer than
     /// 1,000,000 turns may be done before. The matcher is told of all linear premises as taken,
     /// kept ones included, and as added of the right atoms in written order and then of the linear
-    /// premises that are kept. Only want of memory is refused, and then the configuration is gone.
+    /// premises that are kept. Only out of memory is refused, and then the configuration is gone.
     pub fn step<L: Ledger>(
         self,
         alloc: Global,

@@ -1,4 +1,4 @@
--- A clause fails by a set of pairs exactly where it calls the number of one, or 0.
+-- A clause fails by a set of pairs if and only if it calls the number of one, or 0.
 use Rattle.std.proofs.Common.{◌≡◌, ◌≢◌, ◌⊎◌, inl, inr, ⊎_elim, ◌==◌, ◌&&◌, ℕ, zero, suc, Bool, true, false, cond, List, [], ◌∷◌, ◌++◌, slice_get, Some, refl, ap, sym, ◌∙◌, subst, eq-eqb}
 use Rattle.std.specs.List.{AllByRecursion, Contains}
 use Rattle.std.proofs.lemmas.Bool.Decides.{eqb_tells}

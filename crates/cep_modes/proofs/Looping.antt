@@ -14,7 +14,7 @@ drop_got xs i x got =
     ∙ ap (λ y. y ∷ drop (suc i) xs) (get_or_from_slice_get xs i x x got)
     ∙ ap (λ k. x ∷ drop k xs) (sym (add-one i))
 
--- one more stands at the end, and all else behind it
+-- one more stands at the end, and all else after it
 pub one_more : {X : Type 0} (found : List X) (x : X) (left : List X) → (found ++ x ∷ []) ++ left ≡ found ++ x ∷ left
 one_more found x left = append_assoc found (x ∷ []) left
 

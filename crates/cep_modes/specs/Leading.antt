@@ -26,7 +26,7 @@ abbrev pub Marks : Bool → Call → List Bool → List Bool → Type 0
 Marks true call old new = (holds old call.callee ≡ true) × (holds old call.caller ≡ false) × (new ≡ slice_set old call.caller true)
 Marks false call old new = (new ≡ old) × IsFollowed old call
 
--- Of these numbers, each is in range and is marked exactly where it is 0 or that of a bad pair.
+-- Of these numbers, each is in range and is marked if and only if it is 0 or that of a bad pair.
 pub record TellsBad (clauses : List ClauseTree) (numbers : List ℕ) (marked : List Bool) : Type 0 where
   pub within : AllByRecursion (λ n. n < length marked) numbers
   pub told : (n : ℕ) → Contains numbers n → holds marked n ≡ true ↔ IsAmong (IsBad clauses) n

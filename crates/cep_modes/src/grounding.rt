@@ -11,7 +11,7 @@ use std::alloc::{AllocError, Global};
 pub type Marks = List<List<bool>>;
 
 /// Which backward premises may leave a variable unknown: those that call a pair of a predicate and
-/// known positions which is bad. Groundness is this profile's. Only want of memory is refused.
+/// known positions which is bad. Groundness is this profile's. Only out of memory is refused.
 pub fn ungrounded_premises(alloc: Global, parts: &Parts) -> Result<Marks, AllocError>
     requires { AreInOrder parts.now }
     ensures { IfOk result (λ marks. AreAllMarks parts.now.clauses parts.now.rules marks) }

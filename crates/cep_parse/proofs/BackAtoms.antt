@@ -1,4 +1,4 @@
--- What may stand behind a symbol and an atom may, with the symbol, stand behind the atom before it.
+-- What may stand after a symbol and an atom may, with the symbol, stand after the atom before it.
 use Rattle.std.proofs.Common.{◌≡◌, ℕ, ◌+◌, List, [], ◌∷◌, ◌++◌, length, refl, sym, ap, subst, ◌∙◌, arith, append_assoc}
 use Rattle.std.proofs.lemmas.List.{append-nil}
 use Rattle.cep_parse.specs.declared.raw.Span.{Span}
@@ -65,7 +65,7 @@ open_back levels takes x name args nodes part atom up =
     subst (λ p. AtomRest levels name args nodes (at word.Open x ∷ p) atom) (append_assoc up.front (at word.Close up.close ∷ []) up.rest ∙ sym up.cut)
     (arg_back levels takes (at word.Open x ∷ (up.front ++ at word.Close up.close ∷ [])) up.more (arg_term x up.close up.front up.more up.read) name args nodes up.rest atom up.after)
 
--- behind a parenthesis: a constructor
+-- after a parenthesis: a constructor
 pub head_back : (levels : List Level) (x : Span) (name : Span) (args : ℕ) (nodes : List RawNode) (part : List Symbol) (atom : RawAtom)
     → AtomRest (Node (length nodes) 0 ∷ levels) name args (nodes ++ node App x 0 ∷ []) part atom → AtomRest (Empty ∷ levels) name args nodes (at word.Name x ∷ part) atom
 head_back levels x name args nodes part atom up = record {

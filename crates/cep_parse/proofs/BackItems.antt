@@ -56,7 +56,7 @@ outer_of place label rest i up = record {
   is = up.end.1;
 }
 
--- an outer rule behind its label
+-- an outer rule after its label
 outer_item : (before : List Symbol) (label : Option Span) → Label before label → (place : ℕ) (rest : List Symbol) (i : RawItem) → place ≡ place_of (before ++ rest) → LeftRest Elems None place label [] rest i → Item (before ++ rest) i
 outer_item before label l place rest i at_place up =
     let o = outer_of place label rest i up in
@@ -74,13 +74,13 @@ head_item before label l place front head h behind i at_place build (goals arrow
 head_item before label l place front head h behind i at_place build (side up) =
     outer_item before label l place (front ++ behind) i at_place (elem_back_left None front (elem.Atom false head ∷ []) (elem_atom _ front head h) place label [] behind i up)
 
--- the dot behind a label and an atom
+-- the dot after a label and an atom
 labelled_alone : (a c : Span) (front : List Symbol) (head : RawAtom) → Atom front head → (dot : Span) → Item (at word.Name a ∷ at word.Colon c ∷ (front ++ at word.Dot dot ∷ [])) (head_alone (Some a) head)
 labelled_alone a c front head (atom name symbols count nodes no_args) dot = colon a c name dot []
 labelled_alone a c front head (atom name symbols count nodes (more_args first others n ms ms' h args)) dot =
     rw (ne_eqb (n + 1) 0 (λ e. absurd (omega arith))) (labelled_item a c dot _ (record { name = name; args = n + 1; nodes = ms ++ ms' }) (atom name _ (n + 1) _ (more_args first others n ms ms' h args)) (omega arith))
 
--- behind a name and a colon
+-- after a name and a colon
 labelled_back : (a : Span) (w : Word) (x : Span) (rest : List Symbol) (i : RawItem) → NextRest (labelled a w x) rest i → (c : Span) → Item (at word.Name a ∷ at word.Colon c ∷ at w x ∷ rest) i
 labelled_back a word.Type x rest i h c = given_item (λ r. at word.Name a ∷ at word.Colon c ∷ at word.Type x ∷ r) (item.Sort a) rest i h (sort a c x)
 labelled_back a word.Pred x rest i h c = given_item (λ r. at word.Name a ∷ at word.Colon c ∷ at word.Pred x ∷ r) (item.Pred a [] Linear) rest i h (λ dot. pred a c x dot [])
@@ -115,13 +115,13 @@ named_back : (name : Span) (args : List Span) (x : Span) (rest : List Symbol) (i
 named_back name [] x rest i h = h x
 named_back name (a ∷ args) x rest i h = h x
 
--- behind names
+-- after names
 names_back : (name : Span) (args : List Span) (w : Word) (x : Span) (rest : List Symbol) (i : RawItem) → NextRest (step_names name args w x) rest i → Item (at word.Name name ∷ (names args ++ at w x ∷ rest)) i
 names_back name args word.Name x rest i h = subst (λ r. Item (at word.Name name ∷ r) i) (names_push args x rest) h
 names_back name args word.Colon x rest i h = named_back name args x rest i h
 names_back name args w x rest i h = names_item name args (at w x) rest i (atom_back' [] name (length args) (map (λ a. node App a 0) args) (use_.First name.from None) w x rest i h)
 
--- behind the colon of names
+-- after the colon of names
 declared_back : (name : Span) (args : List Span) (w : Word) (x : Span) (rest : List Symbol) (i : RawItem) → NextRest (step_declared name args w x) rest i → (c : Span) → Item (at word.Name name ∷ (names args ++ at word.Colon c ∷ at w x ∷ rest)) i
 declared_back name args word.Pred x rest i h c = given_item (λ r. at word.Name name ∷ (names args ++ at word.Colon c ∷ at word.Pred x ∷ r)) (item.Pred name args Linear) rest i h (λ dot. pred name c x dot args)
 declared_back name args word.Bwd x rest i h c = given_item (λ r. at word.Name name ∷ (names args ++ at word.Colon c ∷ at word.Bwd x ∷ r)) (item.Pred name args Back) rest i h (λ dot. back_pred name c x dot args)
@@ -139,14 +139,14 @@ begin_back word.Interactive x rest i h = h x
 begin_back word.Trace x rest i h = h x refl
 begin_back w x rest i h = outer_item [] None no_label x.from (at w x ∷ rest) i refl (before_elem_back None None x.from None [] w x rest i h)
 
--- behind `_`
+-- after `_`
 blank_back : (place : ℕ) (w : Word) (x : Span) (rest : List Symbol) (i : RawItem) → NextRest (behind_blank place w) rest i → (b : Span) → b.from ≡ place → Item (at word.Blank b ∷ at w x ∷ rest) i
 blank_back place word.Colon x rest i h b is =
     let o = outer_of place None rest i h in
     subst (λ j. Item (at word.Blank b ∷ at word.Colon x ∷ rest) j) (sym (o.is ∙ ap (λ p. item.Outer (record { at = p; label = None; left = o.left; right = o.right })) (sym is))) (unnamed b x rest o.left o.right o.read)
 blank_back place _ x rest i h b is = absurd h
 
--- behind `stage`
+-- after `stage`
 stage_word_back : (place : ℕ) (w : Word) (x : Span) (rest : List Symbol) (i : RawItem) → NextRest (stage_word place w x) rest i → (s : Span) → s.from ≡ place → Item (at word.Stage s ∷ at w x ∷ rest) i
 stage_word_back place word.Name x rest i h = h
 stage_word_back place _ x rest i h = absurd h
@@ -164,7 +164,7 @@ stage_equals_back a word.OpenBrace x rest i up s e =
     (subst (λ r. Item (at word.Stage s ∷ at word.Name a ∷ at word.Equals e ∷ at word.OpenBrace x ∷ r) (item.Stage a up.more)) (sym up.cut) (stage_item s a e x up.close up.front up.ending up.more up.read up.may_dot))
 stage_equals_back a _ x rest i h s e = absurd h
 
--- behind `context`
+-- after `context`
 context_word_back : (w : Word) (x : Span) (rest : List Symbol) (i : RawItem) → NextRest (context_word w x) rest i → (c : Span) → Item (at word.Context c ∷ at w x ∷ rest) i
 context_word_back word.Name x rest i h = h
 context_word_back _ x rest i h = absurd h
@@ -179,7 +179,7 @@ context_equals_back a word.OpenBrace x rest i up c e =
     (subst (λ r. Item (at word.Context c ∷ at word.Name a ∷ at word.Equals e ∷ at word.OpenBrace x ∷ r) (item.Context a up.more)) (sym up.cut) (context c a e x up.front up.behind up.more up.read up.end.0))
 context_equals_back a _ x rest i h c e = absurd h
 
--- behind a directive
+-- after a directive
 interactive_back : (w : Word) (x : Span) (rest : List Symbol) (i : RawItem) → NextRest (interactive_word w x) rest i → (d : Span) → Item (at word.Interactive d ∷ at w x ∷ rest) i
 interactive_back word.Name x rest i h d = given_item (λ r. at word.Interactive d ∷ at word.Name x ∷ r) (item.Interactive x) rest i h (interactive d x)
 interactive_back _ x rest i h d = absurd h
@@ -222,7 +222,7 @@ plain_back (plain.TraceWord place) w x rest i h = trace_word_back place w x rest
 plain_back (plain.TraceLimit place limit) w x rest i h = trace_limit_back place limit w x rest i h
 plain_back (plain.TraceStage place limit a) w x rest i h = trace_stage_back place limit a w x rest i h
 
--- what may stand behind a symbol may, with it, stand behind the state before it
+-- what may stand after a symbol may, with it, stand after the state before it
 pub step_back : (s : State) (w : Word) (x : Span) (rest : List Symbol) (i : RawItem) → NextRest (step s w x) rest i → Rest s (at w x ∷ rest) i
 step_back (state.Plain p) w x rest i h = plain_back p w x rest i h
 step_back (state.Names name args) w x rest i h = names_back name args w x rest i h

@@ -57,7 +57,7 @@ elem_back_right stage first fs h place label left right behind i up = record {
   end = subst (λ r. RuleEnd stage (record { at = place; label = label; left = left; right = r }) up.behind i) (append_assoc right fs up.more) up.end;
 }
 
--- an atom before the elements behind it
+-- an atom before the elements after it
 atom_back : (right : Option (List RawElem)) (stage : Option StageSoFar) (place : ℕ) (label : Option Span) (left : List RawElem) (x : Span) (rest : List Symbol) (i : RawItem)
     → InAtomRest (atom_begun x) (use_.Elem (record { stage = stage; at = place; label = label; left = left; right = right }) false) rest i → SideRest Elems right stage place label left (at word.Name x ∷ rest) i
 atom_back None stage place label left x rest i up =
@@ -82,7 +82,7 @@ before_elem_back right None place label left word.Stage x rest i h = h x
 before_elem_back right (Some stage) place label left word.Stage x rest i h = absurd h
 before_elem_back right stage place label left _ x rest i h = absurd h
 
--- behind `$`
+-- after `$`
 kept_back : (right : Option (List RawElem)) (stage : Option StageSoFar) (place : ℕ) (label : Option Span) (left : List RawElem) (w : Word) (x : Span) (rest : List Symbol) (i : RawItem)
     → NextRest (behind_dollar (record { stage = stage; at = place; label = label; left = left; right = right }) w x) rest i → KeptRest right stage place label left (at w x ∷ rest) i
 kept_back (Some right) stage place label left w x rest i h = tt
@@ -91,14 +91,14 @@ kept_back None stage place label left word.Name x rest i up = λ y.
     (elem_back_left stage (at word.Dollar y ∷ at word.Name x ∷ up.front) (elem.Atom true up.atom ∷ []) (kept (is_none stage) y _ up.atom (whole_atom_of x up.front up.atom up.read)) place label left up.behind i up.after)
 kept_back None stage place label left _ x rest i h = absurd h
 
--- behind `(`
+-- after `(`
 unit_back : (right : Option (List RawElem)) (stage : Option StageSoFar) (place : ℕ) (label : Option Span) (left : List RawElem) (w : Word) (x : Span) (rest : List Symbol) (i : RawItem)
     → NextRest (behind_open (record { stage = stage; at = place; label = label; left = left; right = right }) w) rest i → (y : Span) → SideRest Elems right stage place label left (at word.Open y ∷ at w x ∷ rest) i
 unit_back None stage place label left word.Close x rest i h y = elem_back_left stage (at word.Open y ∷ at word.Close x ∷ []) [] (elem_unit (left_of stage) y x) place label left rest i (subst (λ l. LeftRest Stars stage place label l rest i) (sym (append-nil left)) h)
 unit_back (Some right) stage place label left word.Close x rest i h y = elem_back_right stage (at word.Open y ∷ at word.Close x ∷ []) [] (elem_unit (right_of stage) y x) place label left right rest i (subst (λ r. RightRest Stars stage place label left r rest i) (sym (append-nil right)) h)
 unit_back right stage place label left _ x rest i h y = absurd h
 
--- behind `stage`
+-- after `stage`
 stage_back : (stage : Option StageSoFar) (right : Option (List RawElem)) (place : ℕ) (label : Option Span) (left : List RawElem) (w : Word) (x : Span) (rest : List Symbol) (i : RawItem)
     → NextRest (behind_stage (record { stage = stage; at = place; label = label; left = left; right = right }) w x) rest i → StageRest stage right place label left (at w x ∷ rest) i
 stage_back (Some stage) right place label left w x rest i h = tt
@@ -110,7 +110,7 @@ stage_back None right place label left _ x rest i h = absurd h
 star_elems : (side : Side) (x : Span) (front : List Symbol) (more : List RawElem) → Elems side front more → Stars side (at word.Star x ∷ front) more
 star_elems side x front more (elems side' first others fs gs h stars) = more_stars side x first others fs gs h stars
 
--- behind an element on the left
+-- after an element on the left
 pub behind_left_back : (stage : Option StageSoFar) (place : ℕ) (label : Option Span) (left : List RawElem) (w : Word) (x : Span) (rest : List Symbol) (i : RawItem)
     → NextRest (behind_left (record { stage = stage; at = place; label = label; left = left; right = None }) w) rest i → LeftRest Stars stage place label left (at w x ∷ rest) i
 behind_left_back stage place label left word.Star x rest i up = record {
@@ -141,7 +141,7 @@ behind_left_back stage place label left word.Lolli x rest i up = record {
 }
 behind_left_back stage place label left _ x rest i h = absurd h
 
--- behind an element on the right
+-- after an element on the right
 behind_right_back : (stage : Option StageSoFar) (place : ℕ) (label : Option Span) (left right : List RawElem) (w : Word) (x : Span) (rest : List Symbol) (i : RawItem)
     → NextRest (behind_right (record { stage = stage; at = place; label = label; left = left; right = Some right }) right w) rest i → RightRest Stars stage place label left right (at w x ∷ rest) i
 behind_right_back stage place label left right word.Star x rest i up = record {
@@ -167,7 +167,7 @@ behind_right_back stage place label left right word.Dot x rest i h = record {
   rule_end_of (Some stage) r rest i h = h
 behind_right_back stage place label left right _ x rest i h = absurd h
 
--- behind an element
+-- after an element
 pub behind_elem_back : (right : Option (List RawElem)) (stage : Option StageSoFar) (place : ℕ) (label : Option Span) (left : List RawElem) (w : Word) (x : Span) (rest : List Symbol) (i : RawItem)
     → NextRest (behind_in right (record { stage = stage; at = place; label = label; left = left; right = right }) w) rest i → SideRest Stars right stage place label left (at w x ∷ rest) i
 behind_elem_back None stage place label left w x rest i h = behind_left_back stage place label left w x rest i h

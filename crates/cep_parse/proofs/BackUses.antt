@@ -1,4 +1,4 @@
--- The same for what stands behind an atom, and for atoms.
+-- The same for what stands after an atom, and for atoms.
 use Rattle.std.proofs.Common.{◌≡◌, ℕ, ◌+◌, Bool, false, List, [], ◌∷◌, ◌++◌, length, Option, None, Some, refl, sym, ap, subst, ◌∙◌, append_assoc}
 use Rattle.std.proofs.lemmas.List.{append-nil}
 use Rattle.cep_parse.specs.declared.raw.Span.{Span}
@@ -55,14 +55,14 @@ rules_back stage word.Name x rest i h = h
 rules_back stage word.CloseBrace x rest i h = record { front = []; close = x; ending = rest; more = []; cut = refl; read = no_rules; may_dot = h.0; is = h.1 ∙ ap (λ r. item.Stage stage.name r) (sym (append-nil stage.rules)) }
 rules_back stage _ x rest i h = absurd h
 
--- the parts of a rule, and what stands behind it
+-- the parts of a rule, and what stands after it
 regroup_rule : (before : List Symbol) (arrow : Symbol) (after : List Symbol) (dot_ : Symbol) (front rest : List Symbol)
     → ((before ++ arrow ∷ (after ++ dot_ ∷ [])) ++ front) ++ rest ≡ before ++ arrow ∷ (after ++ dot_ ∷ (front ++ rest))
 regroup_rule before arrow after dot_ front rest =
     append_assoc (before ++ arrow ∷ (after ++ dot_ ∷ [])) front rest ∙ append_assoc before (arrow ∷ (after ++ dot_ ∷ [])) (front ++ rest)
     ∙ ap (λ r. before ++ arrow ∷ r) (append_assoc after (dot_ ∷ []) (front ++ rest))
 
--- behind the label of a rule there
+-- after the label of a rule there
 pub rule_named_back : (stage : StageSoFar) (a : Span) (w : Word) (x : Span) (rest : List Symbol) (i : RawItem) → NextRest (rule_named stage a w) rest i → RulesRest stage (at word.Name a ∷ at w x ∷ rest) i
 rule_named_back stage a word.Colon x rest i up =
     let end : RulesRest (record { name = stage.name; rules = stage.rules ++ record { at = a.from; label = Some a; left = up.more; right = up.right } ∷ [] }) up.behind i = up.end in
@@ -94,7 +94,7 @@ goal_more c mark x is rest i up = record {
   is = up.after.is ∙ ap (λ gs. item.Clause c.label c.head gs) (append_assoc c.goals (up.goal ∷ []) up.after.more);
 }
 
--- behind a goal
+-- after a goal
 pub behind_goal_back : (c : ClauseSoFar) (w : Word) (x : Span) (rest : List Symbol) (i : RawItem) → NextRest (behind_goal c w) rest i → GoalsRest c (at w x ∷ rest) i
 behind_goal_back c word.Dot x rest i h = record { front = []; dot = x; more = []; cut = ap (λ r. at word.Dot x ∷ r) h.0; read = no_goals; is = h.1 ∙ ap (λ gs. item.Clause c.label c.head gs) (sym (append-nil c.goals)) }
 behind_goal_back c word.Back x rest i h = goal_more c word.Back x one rest i h
@@ -159,7 +159,7 @@ bag_back b bag.Next w x rest i h = bag_next_back b w x rest i h
 bag_back b bag.Unit w x rest i h = bag_unit_back b w x rest i h
 bag_back b bag.Behind w x rest i h = bag_behind_back b w x rest i h
 
--- behind the first atom of a clause or of an outer rule
+-- after the first atom of a clause or of an outer rule
 head_back' : (place : ℕ) (label : Option Span) (head : RawAtom) (w : Word) (x : Span) (rest : List Symbol) (i : RawItem) → NextRest (behind_head place label head w) rest i → HeadRest place label head (at w x ∷ rest) i
 head_back' place label head word.Dot x rest i h = alone (record { dot = x; cut = ap (λ r. at word.Dot x ∷ r) h.0; is = h.1 })
 head_back' place label head word.Back x rest i h = goals x rest refl h
@@ -167,14 +167,14 @@ head_back' place label head word.Star x rest i h = side (behind_left_back None p
 head_back' place label head word.Lolli x rest i h = side (behind_left_back None place label (elem.Atom false head ∷ []) word.Lolli x rest i h)
 head_back' place label head _ x rest i h = absurd h
 
--- behind an element that an atom is
+-- after an element that an atom is
 use_elem_back : (right : Option (List RawElem)) (stage : Option StageSoFar) (place : ℕ) (label : Option Span) (left : List RawElem) (keeps : Bool) (a : RawAtom) (w : Word) (x : Span) (rest : List Symbol) (i : RawItem)
     → NextRest (behind_atom (use_.Elem (record { stage = stage; at = place; label = label; left = left; right = right }) keeps) a w) rest i
     → UseRest (use_.Elem (record { stage = stage; at = place; label = label; left = left; right = right }) keeps) a (at w x ∷ rest) i
 use_elem_back None stage place label left keeps a w x rest i h = behind_elem_back None stage place label (left ++ elem.Atom keeps a ∷ []) w x rest i h
 use_elem_back (Some right) stage place label left keeps a w x rest i h = behind_elem_back (Some (right ++ elem.Atom keeps a ∷ [])) stage place label left w x rest i h
 
--- behind an atom
+-- after an atom
 pub use_back : (used : Use) (a : RawAtom) (w : Word) (x : Span) (rest : List Symbol) (i : RawItem) → NextRest (behind_atom used a w) rest i → UseRest used a (at w x ∷ rest) i
 use_back (use_.First place label) a w x rest i h = head_back' place label a w x rest i h
 use_back (use_.Goal c) a w x rest i h = behind_goal_back (with_goal c a) w x rest i h
@@ -187,7 +187,7 @@ within_atom : (levels levels' : List Level) (name : Span) (args args' : ℕ) (no
     → InAtomRest (record { name = name; args = args'; nodes = nodes'; levels = levels' }) used rest i → InAtomRest (record { name = name; args = args; nodes = nodes; levels = levels }) used (s ∷ rest) i
 within_atom levels levels' name args args' nodes nodes' used s rest i back up = record { front = s ∷ up.front; behind = up.behind; atom = up.atom; cut = ap (λ r. s ∷ r) up.cut; read = back up.front up.atom up.read; after = up.after }
 
--- a symbol behind the atom
+-- a symbol after the atom
 behind_it : (name : Span) (args : ℕ) (nodes : List RawNode) (used : Use) (w : Word) (x : Span) (rest : List Symbol) (i : RawItem)
     → NextRest (behind_atom used (record { name = name; args = args; nodes = nodes }) w) rest i → InAtomRest (record { name = name; args = args; nodes = nodes; levels = [] }) used (at w x ∷ rest) i
 behind_it name args nodes used w x rest i h = record { front = []; behind = at w x ∷ rest; atom = record { name = name; args = args; nodes = nodes }; cut = refl; read = flat_ends name args nodes; after = use_back used _ w x rest i h }

@@ -23,7 +23,7 @@ use Rattle.cep_parse.proofs.Nodes.{set_args_at}
 use Rattle.cep_parse.proofs.Runs.{atom_at, more_args_in, run, TakesArgs}
 use Rattle.cep_parse.proofs.Runs.TakesArgs.{flat, within}
 
--- the atom behind a term that ended
+-- the atom after a term that ended
 abbrev pub behind_term : Span → ℕ → List RawNode → List Level → Use → State
 behind_term name args nodes levels used = state.Atom (child_in levels (record { name = name; args = args; nodes = nodes; levels = levels })) used
 
@@ -43,7 +43,7 @@ mutual
   arg_runs symbols more (arg_term open_ close inner more' term) items name args nodes levels used rest (within index count lower) =
       ap (run items (atom_at name args nodes (Empty ∷ Node index count ∷ lower) used)) (append_assoc inner (at word.Close close ∷ []) rest) ∙ term_runs inner more' term items name args nodes (Node index count ∷ lower) used close rest
 
-  -- a term behind its parenthesis, with the one that closes it
+  -- a term after its parenthesis, with the one that closes it
   pub term_runs : (symbols : List Symbol) (more : List RawNode) → Term symbols more
       → (items : List RawItem) (name : Span) (args : ℕ) (nodes : List RawNode) (levels : List Level) (used : Use) (close : Span) (rest : List Symbol)
       → run items (atom_at name args nodes (Empty ∷ levels) used) (symbols ++ at word.Close close ∷ rest) ≡ run items (behind_term name args (nodes ++ more) levels used) rest
@@ -83,7 +83,7 @@ mutual
       ∙ (let e : count' + 1 + n ≡ count' + (n + 1) = omega arith in
       λ i. run items (atom_at name args (append_assoc nodes ms ms' i) (Node index (e i) ∷ lower) used) rest)
 
--- what may stand behind an atom
+-- what may stand after an atom
 pub data StandsBehind : Word → Type 0 where
   dot : StandsBehind word.Dot
   back : StandsBehind word.Back

@@ -63,7 +63,7 @@ item_starts symbols i (interactive directive a x) = record { word_ = word.Intera
 item_starts symbols i (trace_named directive stage_ a x mark limit l) = record { word_ = word.Trace; x = directive; rest = _; is = refl; same = refl }
 item_starts symbols i (trace_listed directive stage_ open_ x mark limit inner atoms l h) = record { word_ = word.Trace; x = directive; rest = _; is = refl; same = refl }
 
--- an item runs alike behind one that a dot may end
+-- an item runs alike after one that a dot may end
 from_behind : (b : Bool) (symbols : List Symbol) (i : RawItem) → Item symbols i → (items : List RawItem) (rest : List Symbol)
     → run items (state_behind b) (symbols ++ rest) ≡ run items (state.Plain plain.Top) (symbols ++ rest)
 from_behind false symbols i h items rest = refl

@@ -45,7 +45,7 @@ use Rattle.cep_parse.proofs.ForwardRules as rules
 use Rattle.cep_parse.proofs.ForwardRules.{atom_runs, rule_at, EndsElem, regroup, stars_end, sides_run, sides_run_behind, rules_run}
 use Rattle.cep_parse.proofs.ForwardRules.EndsElem.{star as ends_star, lolli as ends_lolli}
 
--- goals behind the first, up to the dot
+-- goals after the first, up to the dot
 goals_run : (symbols : List Symbol) (goals : List RawAtom) → Goals symbols goals → (items : List RawItem) (label : Option Span) (head : RawAtom) (so_far : List RawAtom) (name : Span) (count : ℕ) (nodes : List RawNode) (x : Span) (rest : List Symbol)
     → run items (atom_at name count nodes [] (use_.Goal (record { label = label; head = head; goals = so_far }))) (symbols ++ at word.Dot x ∷ rest)
     ≡ run (items ++ item.Clause label head (so_far ++ record { name = name; args = count; nodes = nodes } ∷ goals) ∷ []) (state.Plain plain.Top) rest
@@ -72,13 +72,13 @@ data Awaits : BagPlace → Type 0 where
   first : Awaits bag.First
   next : Awaits bag.Next
 
--- what stands behind an element of a bag
+-- what stands after an element of a bag
 data EndsBagElem : Word → Type 0 where
   comma : EndsBagElem word.Comma
   joined : EndsBagElem word.Star
   brace : EndsBagElem word.CloseBrace
 
--- behind an atom of a bag
+-- after an atom of a bag
 bag_atom_ends : (items : List RawItem) (home_ : BagHome) (atoms : List RawAtom) (name : Span) (count : ℕ) (nodes : List RawNode) (mark : Word) (x : Span) (rest : List Symbol) → EndsBagElem mark
     → run items (atom_at name count nodes [] (use_.Bag (record { home = home_; atoms = atoms }))) (at mark x ∷ rest) ≡ run items (bag_at home_ (atoms ++ record { name = name; args = count; nodes = nodes } ∷ []) bag.Behind) (at mark x ∷ rest)
 bag_atom_ends items home_ atoms name count nodes mark x rest comma = refl
@@ -127,7 +127,7 @@ bag_more_runs symbols es (more_atoms mark a first' others fs gs other h g) items
     ∙ bag_more_runs others gs g items home_ (atoms ++ fs) x rest
     ∙ ap (λ a. run_from (moved items (bag_ended home_ a)) rest) (append_assoc atoms fs gs)
 
--- a bag behind its opening brace
+-- a bag after its opening brace
 bag_runs : (symbols : List Symbol) (es : List RawAtom) → Bag symbols es → (items : List RawItem) (home_ : BagHome) (rest : List Symbol)
     → run items (bag_at home_ [] bag.First) (symbols ++ rest) ≡ run_from (moved items (bag_ended home_ es)) rest
 bag_runs symbols es (empty_bag close) items home_ rest = refl
@@ -144,13 +144,13 @@ decl_names_run : (more : List Span) (items : List RawItem) (name : Span) (so_far
 decl_names_run [] items name so_far rest = ap (λ n. run items (state.Names name n) rest) (sym (append-nil so_far))
 decl_names_run (a ∷ more) items name so_far rest = decl_names_run more items name (so_far ++ a ∷ []) rest ∙ ap (λ n. run items (state.Names name n) rest) (append_assoc so_far (a ∷ []) more)
 
--- behind the name of a first atom: its arguments, and what stands behind them
+-- after the name of a first atom: its arguments, and what stands after them
 head_runs : (symbols : List Symbol) (count : ℕ) (nodes : List RawNode) → Args symbols count nodes → (items : List RawItem) (name : Span) (mark : Word) (x : Span) (rest : List Symbol) → StandsBehind mark
     → run items (state.Names name []) (symbols ++ at mark x ∷ rest) ≡ run items (atom_at name count nodes [] (use_.First name.from None)) (at mark x ∷ rest)
 head_runs symbols count nodes h items name mark x rest stands =
     names_run symbols count nodes h items name [] mark x rest stands ∙ (let e : 0 + count ≡ count = omega arith in λ i. run items (atom_at name (e i) nodes [] (use_.First name.from None)) (at mark x ∷ rest))
 
--- what stands behind the first element of an outer rule
+-- what stands after the first element of an outer rule
 pub data EndsFirst : Word → Type 0 where
   first_star : EndsFirst word.Star
   first_lolli : EndsFirst word.Lolli
@@ -189,7 +189,7 @@ first_elem_runs symbols es (kept outer' dollar inner a (atom name args count nod
 first_elem_runs symbols es (qui a) items mark x rest ends = refl
 first_elem_runs symbols es (elem_stage right stage_ a) items mark x rest ends = stage_is_elem items stage_.from a mark x rest ends
 
--- the same behind a label
+-- the same after a label
 labelled_elem_runs : (symbols : List Symbol) (es : List RawElem) → Elem (record { outer = true; right = false }) symbols es
     → (items : List RawItem) (a : Span) (mark : Word) (x : Span) (rest : List Symbol) → EndsFirst mark
     → run items (state.Plain (plain.Labelled a)) (symbols ++ at mark x ∷ rest) ≡ run items (rule_at None a.from (Some a) es None rule.Behind) (at mark x ∷ rest)
@@ -201,7 +201,7 @@ labelled_elem_runs symbols es (kept outer' dollar inner b (atom name args count 
 labelled_elem_runs symbols es (qui q) items a mark x rest ends = refl
 labelled_elem_runs symbols es (elem_stage right stage_ s) items a mark x rest ends = refl
 
--- what the elements behind the first of a left side begin with
+-- what the elements after the first of a left side begin with
 record EndsFirstSo (symbols : List Symbol) : Type 0 where
   mark : Word
   x : Span
@@ -251,7 +251,7 @@ colon_runs : (a colon_ b x : Span) (args : List Span) (items : List RawItem) (re
 colon_runs a colon_ b x [] items rest = refl
 colon_runs a colon_ b x (c ∷ args) items rest = refl
 
--- a dot that may stand behind an item
+-- a dot that may stand after an item
 may_dot_runs : (ending : List Symbol) → MayDot ending → (items : List RawItem) (rest : List Symbol)
     → (b : Bool) × (run items (state.Plain plain.Ended) (ending ++ rest) ≡ run items (state_behind b) rest)
 may_dot_runs ending no_dot items rest = (true, refl)
@@ -263,7 +263,7 @@ limit_runs : (mark : Symbol) (limit : Option Span) → Limit mark limit → (ite
 limit_runs mark limit (blank_limit a) items place rest = refl
 limit_runs mark limit (number_limit a) items place rest = refl
 
--- a clause behind its head
+-- a clause after its head
 clause_end : (arrow x : Span) (first' others : List Symbol) (label : Option Span) (head goal : RawAtom) (goals : List RawAtom) → Atom first' goal → Goals others goals → (items : List RawItem) (rest : List Symbol)
     → run items (state.Goal (record { label = label; head = head; goals = [] })) (first' ++ (others ++ at word.Dot x ∷ rest)) ≡ run (items ++ item.Clause label head (goal ∷ goals) ∷ []) (state.Plain plain.Top) rest
 clause_end arrow x first' others label head goal goals (atom name inner count nodes args) h items rest =

@@ -47,13 +47,13 @@ regroup first others arrow after dot_ rest =
 abbrev pub rule_at : Option StageSoFar → ℕ → Option Span → List RawElem → Option (List RawElem) → RulePlace → State
 rule_at stage place label left right where_ = state.Rule (record { stage = stage; at = place; label = label; left = left; right = right }) where_
 
--- what may stand behind an element
+-- what may stand after an element
 pub data EndsElem : Word → Type 0 where
   star : EndsElem word.Star
   lolli : EndsElem word.Lolli
   dot : EndsElem word.Dot
 
--- behind an atom on the left
+-- after an atom on the left
 left_atom_ends : (items : List RawItem) (stage : Option StageSoFar) (place : ℕ) (label : Option Span) (left : List RawElem) (keeps : Bool) (name : Span) (count : ℕ) (nodes : List RawNode) (mark : Word) (x : Span) (rest : List Symbol) → EndsElem mark
     → run items (atom_at name count nodes [] (use_.Elem (record { stage = stage; at = place; label = label; left = left; right = None }) keeps)) (at mark x ∷ rest)
     ≡ run items (rule_at stage place label (left ++ elem.Atom keeps (record { name = name; args = count; nodes = nodes }) ∷ []) None rule.Behind) (at mark x ∷ rest)
@@ -105,7 +105,7 @@ pub stars_end : (side : Side) (symbols : List Symbol) (es : List RawElem) → St
 stars_end side symbols es (no_stars side') mark x rest ends = record { mark = mark; x = x; rest = rest; is = refl; ends = ends }
 stars_end side symbols es (more_stars side' s first others fs gs one' stars) mark x rest ends = record { mark = word.Star; x = s; rest = (first ++ others) ++ at mark x ∷ rest; is = refl; ends = star }
 
--- the elements behind one on the left
+-- the elements after one on the left
 pub left_stars_run : (outer : Bool) (symbols : List Symbol) (es : List RawElem) → Stars (record { outer = outer; right = false }) symbols es
     → (items : List RawItem) (stage : Option StageSoFar) (place : ℕ) (label : Option Span) (left : List RawElem) (mark : Word) (x : Span) (rest : List Symbol) → is_none stage ≡ outer → EndsElem mark
     → run items (rule_at stage place label left None rule.Behind) (symbols ++ at mark x ∷ rest) ≡ run items (rule_at stage place label (left ++ es) None rule.Behind) (at mark x ∷ rest)
@@ -118,7 +118,7 @@ left_stars_run outer symbols es (more_stars side s first others fs gs one' stars
     ∙ left_stars_run outer others gs stars items stage place label (left ++ fs) mark x rest is ends
     ∙ ap (λ l. run items (rule_at stage place label l None rule.Behind) (at mark x ∷ rest)) (append_assoc left fs gs)
 
--- the elements behind one on the right
+-- the elements after one on the right
 pub right_stars_run : (outer : Bool) (symbols : List Symbol) (es : List RawElem) → Stars (record { outer = outer; right = true }) symbols es
     → (items : List RawItem) (stage : Option StageSoFar) (place : ℕ) (label : Option Span) (left right : List RawElem) (mark : Word) (x : Span) (rest : List Symbol) → is_none stage ≡ outer → EndsElem mark
     → run items (rule_at stage place label left (Some right) rule.Behind) (symbols ++ at mark x ∷ rest) ≡ run items (rule_at stage place label left (Some (right ++ es)) rule.Behind) (at mark x ∷ rest)

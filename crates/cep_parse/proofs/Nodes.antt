@@ -24,7 +24,7 @@ set_args_past [] index args past = refl
 set_args_past (n ∷ nodes) zero args past = absurd (omega arith)
 set_args_past (n ∷ nodes) (suc index) args past = ap (λ ns. n ∷ ns) (set_args_past nodes index args (omega arith))
 
--- at the node behind others
+-- at the node after others
 pub set_args_at : (nodes others : List RawNode) (n : RawNode) (args : ℕ) → set_args (nodes ++ n ∷ others) (length nodes) args ≡ nodes ++ node n.kind n.at args ∷ others
 set_args_at [] others n args = refl
 set_args_at (m ∷ nodes) others n args = ap (λ ns. m ∷ ns) (set_args_at nodes others n args)

@@ -32,7 +32,7 @@ module _ (text : List ℕ) (tokens : List Token) where
   abbrev HasAnswer : Type 0
   HasAnswer = (answer : Result (List RawItem) ParseFault) × IsParsed text tokens answer
 
-  -- behind the last symbol
+  -- after the last symbol
   at_end : (items : List RawItem) (s : State) (open_ : ℕ) → IsAt symbols items s open_ → HasAnswer
   at_end items s open_ is = by (is_within s) refl where
     by : (within : Bool) → is_within s ≡ within → HasAnswer

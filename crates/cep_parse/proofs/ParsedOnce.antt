@@ -17,7 +17,7 @@ use Rattle.cep_parse.specs.Files.IsUnexpected.{symbol, ended}
 begins_before : (front more_ : List Symbol) → Begins (front ++ more_) → Begins front
 begins_before front more_ is = record { more = more_ ++ is.more; items = is.items; file = subst (λ symbols. File symbols is.items) (append_assoc front more_ is.more) is.file }
 
--- a front that stands before a symbol of another cut, or the same, or one behind it
+-- a front that stands before a symbol of another cut, or the same, or one after it
 data Compared (front rest : List Symbol) (next : Symbol) (front' rest' : List Symbol) (next' : Symbol) : Type 0 where
   before : (mid : List Symbol) → front' ≡ front ++ next ∷ mid → Compared front rest next front' rest' next'
   same : front ≡ front' → next ≡ next' → Compared front rest next front' rest' next'
@@ -37,7 +37,7 @@ compare (x ∷ front) rest next (y ∷ front') rest' next' e =
     let further : front ++ next ∷ rest ≡ front' ++ next' ∷ rest' = cc in
     subst (λ z. Compared (x ∷ front) rest next (z ∷ front') rest' next') first (compared_behind x front rest next front' rest' next' (compare front rest next front' rest' next' further))
 
--- the front with its symbol, as a front of what goes on behind it
+-- the front with its symbol, as a prefix of what goes on after it
 with_next : (front : List Symbol) (next : Symbol) (mid : List Symbol) → front ++ next ∷ mid ≡ (front ++ next ∷ []) ++ mid
 with_next front next mid = sym (append_assoc front (next ∷ []) mid)
 

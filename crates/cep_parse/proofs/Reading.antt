@@ -44,13 +44,13 @@ pub record DotThen (rest : List Symbol) (more : List RawItem) : Type 0 where
   pub cut : rest ≡ at word.Dot dot ∷ others
   pub file : File others more
 
--- what may stand behind a state, and the further items
+-- what may stand after a state, and the further items
 abbrev pub FileRest : State → List Symbol → List RawItem → Type 0
 FileRest (state.Plain plain.Top) rest more = File rest more
 FileRest (state.Plain plain.Ended) rest more = File rest more ⊎ DotThen rest more
 FileRest s rest more = ItemThen (Rest s) rest more
 
--- what may stand behind a step, and the further items
+-- what may stand after a step, and the further items
 abbrev pub FileNext : Next → List Symbol → List RawItem → Type 0
 FileNext (Go s) rest more = FileRest s rest more
 FileNext (ItemEnds i may_dot) rest more = (items : List RawItem) × (more ≡ i ∷ items) × FileRest (state_behind may_dot) rest items
@@ -91,13 +91,13 @@ ended_file : (w : Word) (x : Span) (rest : List Symbol) (more : List RawItem) �
 ended_file word.Dot x rest more r = inr (record { dot = x; others = rest; cut = refl; file = r })
 ended_file w x rest more r = inl (begin_file w x rest more r)
 
--- what may stand behind a symbol may, with it, stand behind the state before it
+-- what may stand after a symbol may, with it, stand after the state before it
 file_back : (s : State) (w : Word) (x : Span) (rest : List Symbol) (more : List RawItem) → FileNext (step s w x) rest more → FileRest s (at w x ∷ rest) more
 file_back (state.Plain plain.Ended) w x rest more r = ended_file w x rest more r
 file_back (state.Plain plain.Top) w x rest more r = begin_file w x rest more r
 file_back s w x rest more r = within_file s refl w x rest more r
 
--- What was read: with what may stand behind the state it is a file.
+-- What was read: with what may stand after the state it is a file.
 pub record Reads (items : List RawItem) (s : State) (front : List Symbol) : Type 0 where
   pub file : (rest : List Symbol) (more : List RawItem) → FileRest s rest more → File (front ++ rest) (items ++ more)
 
@@ -120,7 +120,7 @@ begins_of items s front r =
     let e = state_ends s in
     record { more = e.rest; items = items ++ e.i ∷ []; file = r.file e.rest (e.i ∷ []) (of_then s refl e.rest (e.i ∷ []) (record { part = e.rest; others = []; i = e.i; items = []; cut = sym (append-nil e.rest); read = e.read; file = no_items; is = refl })) }
 
--- where the reading is behind the symbols
+-- where the reading is after the symbols
 pub record IsAt (front : List Symbol) (items : List RawItem) (s : State) (open_ : ℕ) : Type 0 where
   pub ran : run [] (state.Plain plain.Top) front ≡ Some (record { items = items; state = s })
   pub reads : Reads items s front
@@ -134,12 +134,12 @@ at_start = record { ran = refl; reads = record { file = λ rest more r. r }; ope
   start_shallow [] rest cut = omega arith
   start_shallow (s ∷ front) rest cut = cc
 
--- parentheses behind one more symbol
+-- parentheses after one more symbol
 open_push : (front : List Symbol) (s : Symbol) (n : ℕ) → open_from n (front ++ s ∷ []) ≡ open_behind s.word (open_from n front)
 open_push [] s n = refl
 open_push (t ∷ front) s n = open_push front s (open_behind t.word n)
 
--- a front of symbols and one more is all of them, or a front of those before the last
+-- a prefix of symbols and one more is all of them, or a prefix of those before the last
 last_or_before : (front : List Symbol) (s : Symbol) (f rest : List Symbol) → front ++ s ∷ [] ≡ f ++ rest → (f ≡ front ++ s ∷ []) ⊎ ((r : List Symbol) × (front ≡ f ++ r))
 last_or_before front s [] rest cut = inr (front, refl)
 last_or_before [] s (t ∷ f) rest cut = inl (only s t f rest cut) where

@@ -1,4 +1,4 @@
--- What may stand behind a state, and the item that it gives.
+-- What may stand after a state, and the item that it gives.
 use Rattle.std.proofs.Common.{◌≡◌, ℕ, ◌+◌, true, false, List, [], ◌∷◌, ◌++◌, Option, None, Some, is_none}
 use Rattle.cep_parse.specs.declared.raw.Span.{Span}
 use Rattle.cep_parse.specs.declared.raw.RawAtom.{RawAtom}
@@ -35,7 +35,7 @@ use Rattle.cep_parse.specs.declared.state.Use.TheVariants as use_
 use Rattle.cep_parse.specs.Grammar.{at, names, Term, Args, Atom, Side, Stars, Elems, Rules, Goals, BagElem, BagMore, Bag, MayDot, Limit, Item}
 use Rattle.cep_parse.specs.Machine.{head_alone, set_args, with_elem}
 
--- what stands behind a term that ended within an atom, up to the atom's end
+-- what stands after a term that ended within an atom, up to the atom's end
 pub record UpFlat (name : Span) (args : ℕ) (nodes : List RawNode) (part : List Symbol) (atom : RawAtom) : Type 0 where
   pub count : ℕ
   pub more : List RawNode
@@ -101,7 +101,7 @@ pub record RulesRest (stage : StageSoFar) (rest : List Symbol) (i : RawItem) : T
   pub may_dot : MayDot ending
   pub is : i ≡ item.Stage stage.name (stage.rules ++ more)
 
--- what stands behind a rule
+-- what stands after a rule
 abbrev pub RuleEnd : Option StageSoFar → RawRule → List Symbol → RawItem → Type 0
 RuleEnd None r rest i = (rest ≡ []) × (i ≡ item.Outer r)
 RuleEnd (Some stage) r rest i = RulesRest (record { name = stage.name; rules = stage.rules ++ r ∷ [] }) rest i
@@ -113,7 +113,7 @@ left_of stage = record { outer = is_none stage; right = false }
 abbrev pub right_of : Option StageSoFar → Side
 right_of stage = record { outer = is_none stage; right = true }
 
--- elements, or further elements, of the left side, and what stands behind them
+-- elements, or further elements, of the left side, and what stands after them
 pub record LeftRest (Reads : Side → List Symbol → List RawElem → Type 0) (stage : Option StageSoFar) (place : ℕ) (label : Option Span) (left : List RawElem) (rest : List Symbol) (i : RawItem) : Type 0 where
   pub front : List Symbol
   pub arrow : Span
@@ -137,12 +137,12 @@ pub record RightRest (Reads : Side → List Symbol → List RawElem → Type 0) 
   pub read : Reads (right_of stage) front more
   pub end : RuleEnd stage (record { at = place; label = label; left = left; right = right ++ more }) behind i
 
--- before and behind an element
+-- before and after an element
 abbrev pub SideRest : (Side → List Symbol → List RawElem → Type 0) → Option (List RawElem) → Option StageSoFar → ℕ → Option Span → List RawElem → List Symbol → RawItem → Type 0
 SideRest Reads None stage place label left rest i = LeftRest Reads stage place label left rest i
 SideRest Reads (Some right) stage place label left rest i = RightRest Reads stage place label left right rest i
 
--- behind `$`, which stands on the left alone, and behind `stage`, which stands in outer rules alone
+-- after `$`, which stands on the left alone, and after `stage`, which stands in outer rules alone
 abbrev pub KeptRest : Option (List RawElem) → Option StageSoFar → ℕ → Option Span → List RawElem → List Symbol → RawItem → Type 0
 KeptRest None stage place label left rest i = (x : Span) → LeftRest Elems stage place label left (at word.Dollar x ∷ rest) i
 KeptRest (Some right) stage place label left rest i = Unit {0}
@@ -177,7 +177,7 @@ pub record GoalRest (clause : ClauseSoFar) (rest : List Symbol) (i : RawItem) : 
   pub read : Atom front goal
   pub after : GoalsRest (record { label = clause.label; head = clause.head; goals = clause.goals ++ goal ∷ [] }) behind i
 
--- behind a bag
+-- after a bag
 abbrev pub BagEnd : BagHome → List RawAtom → List Symbol → RawItem → Type 0
 BagEnd (home.Context name) atoms rest i = MayDot rest × (i ≡ item.Context name atoms)
 BagEnd (home.Trace place limit stage) atoms rest i = DotRest (item.Trace place limit stage (Listed atoms)) rest i
@@ -221,13 +221,13 @@ BagRest bag.Next b rest i = BagElemRest b.home b.atoms rest i
 BagRest bag.Unit b rest i = BagUnitRest b.home b.atoms rest i
 BagRest bag.Behind b rest i = BagMoreRest b.home b.atoms rest i
 
--- behind the first atom of a clause or of an outer rule
+-- after the first atom of a clause or of an outer rule
 pub data HeadRest (place : ℕ) (label : Option Span) (head : RawAtom) (rest : List Symbol) (i : RawItem) : Type 0 where
   alone : DotRest (head_alone label head) rest i → HeadRest place label head rest i
   goals : (arrow : Span) (behind : List Symbol) → rest ≡ at word.Back arrow ∷ behind → GoalRest (record { label = label; head = head; goals = [] }) behind i → HeadRest place label head rest i
   side : LeftRest Stars None place label (elem.Atom false head ∷ []) rest i → HeadRest place label head rest i
 
--- behind an atom
+-- after an atom
 abbrev pub UseRest : Use → RawAtom → List Symbol → RawItem → Type 0
 UseRest (use_.First place label) atom rest i = HeadRest place label atom rest i
 UseRest (use_.Goal c) atom rest i = GoalsRest (record { label = c.label; head = c.head; goals = c.goals ++ atom ∷ [] }) rest i
@@ -260,7 +260,7 @@ PlainRest (plain.TraceWord place) rest i = (d : Span) → d.from ≡ place → I
 PlainRest (plain.TraceLimit place limit) rest i = (d : Span) (m : Symbol) → d.from ≡ place → Limit m limit → Item (at word.Trace d ∷ m ∷ rest) i
 PlainRest (plain.TraceStage place limit a) rest i = (d : Span) (m : Symbol) → d.from ≡ place → Limit m limit → Item (at word.Trace d ∷ m ∷ at word.Name a ∷ rest) i
 
--- what may stand behind a state, up to the end of the item
+-- what may stand after a state, up to the end of the item
 abbrev pub Rest : State → List Symbol → RawItem → Type 0
 Rest (state.Plain p) rest i = PlainRest p rest i
 Rest (state.Names name args) rest i = Item (at word.Name name ∷ (names args ++ rest)) i
@@ -273,7 +273,7 @@ Rest (state.Goal c) rest i = GoalRest c rest i
 Rest (state.Bag b place) rest i = BagRest place b rest i
 Rest (state.Atom a used) rest i = InAtomRest a used rest i
 
--- what may stand behind a step
+-- what may stand after a step
 abbrev pub NextRest : Next → List Symbol → RawItem → Type 0
 NextRest (Go s) rest i = Rest s rest i
 NextRest (ItemEnds given true) rest i = MayDot rest × (i ≡ given)

@@ -22,7 +22,7 @@ run_from (Some c) (symbol ∷ symbols) = run_from (moved c.items (step c.state s
 abbrev pub run : List RawItem → State → List Symbol → Option Config
 run items s symbols = run_from (Some (record { items = items; state = s })) symbols
 
--- one run behind another
+-- one run after another
 pub run_append : (at_ : Option Config) (front rest : List Symbol) → run_from at_ (front ++ rest) ≡ run_from (run_from at_ front) rest
 run_append at_ [] rest = refl
 run_append None (symbol ∷ front) rest = run_append None front rest
@@ -37,7 +37,7 @@ run_stopped (symbol ∷ symbols) = run_stopped symbols
 abbrev pub atom_at : Span → ℕ → List RawNode → List Level → Use → State
 atom_at name args nodes levels used = state.Atom (record { name = name; args = args; nodes = nodes; levels = levels }) used
 
--- where arguments are read: behind the atom's name, or behind a constructor
+-- where arguments are read: after the atom's name, or after a constructor
 pub data TakesArgs : List Level → Type 0 where
   flat : TakesArgs []
   within : (index args : ℕ) (levels : List Level) → TakesArgs (Node index args ∷ levels)

@@ -10,7 +10,7 @@ use Rattle.cep_parse.specs.declared.symbol.Symbol.{Symbol}
 use Rattle.cep_parse.specs.Symbols.{symbol_of, symbols_of}
 use Rattle.cep_parse.proofs.Reading.{IsAt}
 
--- a token and what stands behind it are within the bytes
+-- a token and what stands after it are within the bytes
 token_within : (at : ℕ) (bytes : List ℕ) (token : Token) (behind : List ℕ) → StartsWith at bytes token behind → (token.from ≤ token.to) × (token.to + length behind ≡ at + length bytes)
 token_within at bytes token behind is =
     let cut = ap length is.split.cut in
@@ -60,7 +60,7 @@ symbols_next text tokens items i d e within =
 pub open_within : (front : List Symbol) (items : List RawItem) (s : State) (depth : ℕ) → IsAt front items s depth → depth ≤ MOST_OPEN
 open_within front items s depth is = let w = is.shallow front [] (sym (append-nil front)) in omega (arith, is.open_is, w)
 
--- behind the last token all symbols were read
+-- after the last token all symbols were read
 pub all_read : (text : List ℕ) (tokens items : List Token) (i : ℕ) → items ≡ tokens → length items ≤ i → take i (symbols_of text tokens) ≡ symbols_of text tokens
 all_read text tokens items i e past =
     let past' : length tokens ≤ i = subst (λ (ts : List Token). length ts ≤ i) e past in

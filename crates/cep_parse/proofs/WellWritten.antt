@@ -20,7 +20,7 @@ use Rattle.cep_parse.specs.Grammar as grammar
 use Rattle.cep_parse.specs.Grammar.{Side, at, place_of, names}
 use Rattle.cep_parse.specs.Written.{IsTokenAt, IsTokenFrom, IsNameAt, Fill, IsWrittenAt, IsAtomOf, IsElemOf, IsLabelOf, IsBegunAt, IsRuleOf, IsLimitOf, IsItemOf}
 
--- what holds of two lists holds of both, one behind the other
+-- what holds of two lists holds of both, one after the other
 both_all : {A : Type 0} (P : A → Type 0) (xs ys : List A) → AllByRecursion P xs → AllByRecursion P ys → AllByRecursion P (xs ++ ys)
 both_all P [] ys here there = there
 both_all P (x ∷ xs) ys here there = (here.0, both_all P xs ys here.1 there)
@@ -72,7 +72,7 @@ module _ (tokens : List Token) where
     all : AllSaid symbols
     few : length symbols ≤ length tokens
 
-  -- those behind the first, those in front of others, and those behind others
+  -- those after the first, those before others, and those after others
   next : (symbol : Symbol) (symbols : List Symbol) → AreSaid (symbol ∷ symbols) → AreSaid symbols
   next symbol symbols said = record { all = said.all.1; few = let f = said.few in omega arith }
 

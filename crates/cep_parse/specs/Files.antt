@@ -17,7 +17,7 @@ pub record Begins (symbols : List Symbol) : Type 0 where
   pub items : List RawItem
   pub file : File (symbols ++ more) items
 
--- how many parentheses are open behind a word, where so many were open before it
+-- how many parentheses are open after a word, where so many were open before it
 abbrev pub open_behind : Word → ℕ → ℕ
 open_behind word.Open open_ = open_ + 1
 open_behind word.Close open_ = open_ - 1
@@ -46,12 +46,12 @@ open_behind word.Context open_ = open_
 open_behind word.Qui open_ = open_
 open_behind word.Other open_ = open_
 
--- how many parentheses are open behind the symbols, where so many were open before them
+-- how many parentheses are open after the symbols, where so many were open before them
 abbrev pub open_from : ℕ → List Symbol → ℕ
 open_from open_ [] = open_
 open_from open_ (symbol ∷ symbols) = open_from (open_behind symbol.word open_) symbols
 
--- behind no front of the symbols are more parentheses open than may be
+-- after no front of the symbols are more parentheses open than may be
 abbrev pub IsShallow : List Symbol → Type 0
 IsShallow symbols = (front rest : List Symbol) → symbols ≡ front ++ rest → open_from 0 front ≤ MOST_OPEN
 

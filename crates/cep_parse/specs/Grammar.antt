@@ -110,7 +110,7 @@ pub data BagMore : List Symbol → List RawAtom → Type 0 where
   more : (mark : Word) (a : Span) (first rest : List Symbol) (atoms others : List RawAtom)
       → IsOneOf word.Comma word.Star mark → BagElem first atoms → BagMore rest others → BagMore (at mark a ∷ (first ++ rest)) (atoms ++ others)
 
--- bag = "{" [ relem { ( "," | "*" ) relem } ] "}", behind its opening brace
+-- bag = "{" [ relem { ( "," | "*" ) relem } ] "}", after its opening brace
 pub data Bag : List Symbol → List RawAtom → Type 0 where
   empty : (close : Span) → Bag (at word.CloseBrace close ∷ []) []
   some : (close : Span) (first rest : List Symbol) (atoms others : List RawAtom)

@@ -41,11 +41,11 @@ use Rattle.cep_parse.specs.declared.state.Use.{Use}
 use Rattle.cep_parse.specs.declared.state.Use.TheVariants as use_
 use Rattle.cep_parse.specs.Grammar.{node}
 
--- a name and nothing behind it
+-- a name and nothing after it
 abbrev pub atom_begun : Span → AtomSoFar
 atom_begun name = record { name = name; args = 0; nodes = []; levels = [] }
 
--- a name and names behind it
+-- a name and names after it
 abbrev pub atom_of_names : Span → List Span → AtomSoFar
 atom_of_names name args = record { name = name; args = length args; nodes = map (λ a. node App a 0) args; levels = [] }
 
@@ -74,7 +74,7 @@ leaf a kind at = child_in a.levels (record { name = a.name; args = a.args; nodes
 abbrev pub opened : AtomSoFar → AtomSoFar
 opened a = record { name = a.name; args = a.args; nodes = a.nodes; levels = Empty ∷ a.levels }
 
--- the atom with a constructor behind an open parenthesis
+-- the atom with a constructor after an open parenthesis
 abbrev pub headed : AtomSoFar → List Level → Span → AtomSoFar
 headed a levels at = record { name = a.name; args = a.args; nodes = a.nodes ++ node App at 0 ∷ []; levels = Node (length a.nodes) 0 ∷ levels }
 
@@ -188,7 +188,7 @@ before_elem r word.Qui at = if is_outer r && not (is_right r) then Go (state.Rul
 before_elem r word.Stage at = if is_outer r then Go (state.Rule r rule.Stage) else Stop
 before_elem r _ at = Stop
 
--- behind an element, on the left and on the right
+-- after an element, on the left and on the right
 abbrev pub behind_left : RuleSoFar → Word → Next
 behind_left r word.Star = Go (state.Rule r rule.Before)
 behind_left r word.Lolli = Go (state.Rule (record { stage = r.stage; at = r.at; label = r.label; left = r.left; right = Some [] }) rule.Before)
@@ -206,17 +206,17 @@ behind_in (Some right) r word = behind_right r right word
 abbrev pub behind_elem : RuleSoFar → Word → Next
 behind_elem r word = behind_in r.right r word
 
--- behind `$`
+-- after `$`
 abbrev pub behind_dollar : RuleSoFar → Word → Span → Next
 behind_dollar r word.Name at = atom_for at (use_.Elem r true)
 behind_dollar r _ at = Stop
 
--- behind `(`
+-- after `(`
 abbrev pub behind_open : RuleSoFar → Word → Next
 behind_open r word.Close = Go (state.Rule r rule.Behind)
 behind_open r _ = Stop
 
--- behind `stage`
+-- after `stage`
 abbrev pub behind_stage : RuleSoFar → Word → Span → Next
 behind_stage r word.Name at = Go (state.Rule (with_elem r (elem.Stage at)) rule.Behind)
 behind_stage r _ at = Stop
@@ -267,7 +267,7 @@ abbrev pub head_alone : Option Span → RawAtom → RawItem
 head_alone None head = item.Clause None head []
 head_alone (Some label) head = if head.args == 0 then item.Colon label [] head.name else item.Clause (Some label) head []
 
--- behind the first atom of a clause or of an outer rule
+-- after the first atom of a clause or of an outer rule
 abbrev pub behind_head : ℕ → Option Span → RawAtom → Word → Next
 behind_head at label head word.Dot = Item (head_alone label head) false
 behind_head at label head word.Back = Go (state.Goal (record { label = label; head = head; goals = [] }))
@@ -279,14 +279,14 @@ behind_head at label head _ = Stop
 abbrev pub with_goal : ClauseSoFar → RawAtom → ClauseSoFar
 with_goal c goal = record { label = c.label; head = c.head; goals = c.goals ++ goal ∷ [] }
 
--- behind a goal
+-- after a goal
 abbrev pub behind_goal : ClauseSoFar → Word → Next
 behind_goal c word.Dot = Item (item.Clause c.label c.head c.goals) false
 behind_goal c word.Back = Go (state.Goal c)
 behind_goal c word.Comma = Go (state.Goal c)
 behind_goal c _ = Stop
 
--- behind an atom, by what it was read for
+-- after an atom, by what it was read for
 abbrev pub behind_atom : Use → RawAtom → Word → Next
 behind_atom (use_.First at label) a word = behind_head at label a word
 behind_atom (use_.Goal c) a word = behind_goal (with_goal c a) word
@@ -302,7 +302,7 @@ grown Broken used word = Stop
 abbrev pub step_atom : AtomSoFar → Use → Word → Span → Next
 step_atom a used word at = grown (grow a word at) used word
 
--- behind names: a colon makes them a declaration, or the one of them a label
+-- after names: a colon makes them a declaration, or the one of them a label
 abbrev pub names_begun : Span → List Span → Next
 names_begun name [] = plainly (plain.Labelled name)
 names_begun name (a ∷ more) = Go (state.Declared name (a ∷ more))
@@ -312,7 +312,7 @@ step_names name args word.Name at = Go (state.Names name (args ++ at ∷ []))
 step_names name args word.Colon at = names_begun name args
 step_names name args word at = step_atom (atom_of_names name args) (use_.First name.from None) word at
 
--- behind the colon of names
+-- after the colon of names
 abbrev pub step_declared : Span → List Span → Word → Span → Next
 step_declared name args word.Pred at = Go (state.Ending (item.Pred name args Linear))
 step_declared name args word.Bwd at = Go (state.Ending (item.Pred name args Back))
@@ -320,7 +320,7 @@ step_declared name args word.Fact at = Go (state.Ending (item.Pred name args Fac
 step_declared name args word.Name at = Go (state.Ending (item.Colon name args at))
 step_declared name args _ at = Stop
 
--- behind a name and a colon
+-- after a name and a colon
 abbrev pub labelled : Span → Word → Span → Next
 labelled label word.Type at = Go (state.Ending (item.Sort label))
 labelled label word.Pred at = Go (state.Ending (item.Pred label [] Linear))
@@ -339,17 +339,17 @@ begin word.Interactive at = plainly plain.InteractiveWord
 begin word.Trace at = plainly (plain.TraceWord at.from)
 begin word at = before_elem (rule_from None at.from None []) word at
 
--- behind an item that a dot may end
+-- after an item that a dot may end
 abbrev pub step_ended : Word → Span → Next
 step_ended word.Dot at = plainly plain.Top
 step_ended word at = begin word at
 
--- behind `_`
+-- after `_`
 abbrev pub behind_blank : ℕ → Word → Next
 behind_blank place word.Colon = Go (state.Rule (rule_from None place None []) rule.Before)
 behind_blank place _ = Stop
 
--- behind `stage`, its name, and its `=`
+-- after `stage`, its name, and its `=`
 abbrev pub stage_word : ℕ → Word → Span → Next
 stage_word place word.Name at = plainly (plain.StageNamed place at)
 stage_word place _ at = Stop
@@ -362,7 +362,7 @@ abbrev pub stage_equals : Span → Word → Next
 stage_equals name word.OpenBrace = Go (state.Rules (record { name = name; rules = [] }))
 stage_equals name _ = Stop
 
--- behind `context`, its name, and its `=`
+-- after `context`, its name, and its `=`
 abbrev pub context_word : Word → Span → Next
 context_word word.Name at = plainly (plain.ContextNamed at)
 context_word _ at = Stop
@@ -375,12 +375,12 @@ abbrev pub context_equals : Span → Word → Next
 context_equals name word.OpenBrace = Go (state.Bag (record { home = home.Context name; atoms = [] }) bag.First)
 context_equals name _ = Stop
 
--- behind `#interactive`
+-- after `#interactive`
 abbrev pub interactive_word : Word → Span → Next
 interactive_word word.Name at = Go (state.Ending (item.Interactive at))
 interactive_word _ at = Stop
 
--- behind `#trace`, its limit, and its stage
+-- after `#trace`, its limit, and its stage
 abbrev pub trace_word : ℕ → Word → Span → Next
 trace_word place word.Blank at = plainly (plain.TraceLimit place None)
 trace_word place word.Number at = plainly (plain.TraceLimit place (Some at))
@@ -412,7 +412,7 @@ step_plain (plain.TraceWord place) word at = trace_word place word at
 step_plain (plain.TraceLimit place limit) word at = trace_limit place limit word at
 step_plain (plain.TraceStage place limit stage) word at = trace_stage place limit stage word at
 
--- a state behind which one or two words alone may stand
+-- a state after which one or two words alone may stand
 abbrev pub IsFixed : Plain → Type 0
 IsFixed plain.Ended = ⊥
 IsFixed plain.Top = ⊥
@@ -421,7 +421,7 @@ IsFixed (plain.StageNamed place name) = ⊥
 IsFixed (plain.TraceStage place limit stage) = ⊥
 IsFixed _ = Unit {0}
 
--- behind an item but its dot
+-- after an item but its dot
 abbrev pub step_ending : RawItem → Word → Next
 step_ending i word.Dot = Item i false
 step_ending i _ = Stop
@@ -432,7 +432,7 @@ step_rules s word.Name at = Go (state.RuleNamed s at)
 step_rules s word.CloseBrace at = Item (item.Stage s.name s.rules) true
 step_rules s _ at = Stop
 
--- behind the label of a rule there
+-- after the label of a rule there
 abbrev pub rule_named : StageSoFar → Span → Word → Next
 rule_named s label word.Colon = Go (state.Rule (rule_from (Some s) label.from (Some label) []) rule.Before)
 rule_named s label _ = Stop
@@ -460,7 +460,7 @@ pub record Config : Type 0 where
   pub items : List RawItem
   pub state : State
 
--- the state behind a whole item
+-- the state after a whole item
 abbrev pub state_behind : Bool → State
 state_behind true = state.Plain plain.Ended
 state_behind false = state.Plain plain.Top

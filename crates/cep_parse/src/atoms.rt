@@ -10,7 +10,7 @@ use crate::state::{AtomSoFar, Growth};
 use crate::symbol::{Symbol, Word};
 use std::alloc::{AllocError, Global};
 
-/// A name, behind which no argument was read.
+/// A name, after which no argument was read.
 pub(crate) fn atom_begun(alloc: Global, name: Span) -> AtomSoFar
     ensures { result ≡ atom_begun name }
 {
@@ -22,7 +22,7 @@ pub(crate) fn atom_begun(alloc: Global, name: Span) -> AtomSoFar
     }
 }
 
-// A count with one more. One that does not fit is want of memory: no text is so long.
+// A count with one more. One that does not fit is out of memory: no text is so long.
 fn one_more(args: u32) -> Result<u32, AllocError>
     ensures { IfOk result (λ more. more ≡ args + 1) }
 {

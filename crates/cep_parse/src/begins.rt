@@ -62,7 +62,7 @@ fn begin(alloc: Global, symbol: Symbol) -> Result<Next, AllocError>
     }
 }
 
-// Behind an item that a dot may end.
+// After an item that a dot may end.
 fn step_ended(alloc: Global, symbol: Symbol) -> Result<Next, AllocError>
     ensures { IfOk result (λ next. next ≡ step_ended symbol.word symbol.at) }
 {
@@ -72,7 +72,7 @@ fn step_ended(alloc: Global, symbol: Symbol) -> Result<Next, AllocError>
     }
 }
 
-// Behind a name and a colon.
+// After a name and a colon.
 fn labelled(alloc: Global, label: Span, symbol: Symbol) -> Result<Next, AllocError>
     ensures { IfOk result (λ next. next ≡ labelled label symbol.word symbol.at) }
 {
@@ -90,7 +90,7 @@ fn labelled(alloc: Global, label: Span, symbol: Symbol) -> Result<Next, AllocErr
     }
 }
 
-// Behind `stage` and its name.
+// After `stage` and its name.
 fn stage_begun(alloc: Global, at: u32, name: Span, symbol: Symbol) -> Result<Next, AllocError>
     ensures { IfOk result (λ next. next ≡ stage_begun at name symbol.word) }
 {
@@ -110,7 +110,7 @@ fn bag_of(alloc: Global, home: BagHome) -> Next
     })
 }
 
-// Behind `#trace`, its limit and its stage.
+// After `#trace`, its limit and its stage.
 fn trace_stage(alloc: Global, at: u32, limit: Option<Span>, stage: Span, symbol: Symbol) -> Next
     ensures { result ≡ trace_stage at limit stage symbol.word symbol.at }
 {
@@ -142,7 +142,7 @@ pub(crate) fn step_plain(alloc: Global, plain: Plain, symbol: Symbol) -> Result<
     }
 }
 
-// In a state behind which one or two words alone may stand.
+// In a state after which one or two words alone may stand.
 fn step_fixed(alloc: Global, plain: Plain, symbol: Symbol) -> Next
     ensures { IsFixed plain → result ≡ step_plain plain symbol.word symbol.at }
 {

@@ -13,7 +13,7 @@ use cep_base::limits::{MOST_OPEN, MOST_TEXT};
 use cep_lex::Tokens;
 use std::alloc::{AllocError, Global};
 
-// The state behind a whole item.
+// The state after a whole item.
 fn state_behind(may_dot: bool) -> State
     ensures { result ≡ state_behind may_dot }
 {
@@ -24,7 +24,7 @@ fn state_behind(may_dot: bool) -> State
     }
 }
 
-// The state behind a symbol, with the item that ends there. None where no file goes on so.
+// The state after a symbol, with the item that ends there. None where no file goes on so.
 fn advance(
     alloc: Global,
     items: &mut RawFile,
@@ -56,7 +56,7 @@ fn is_too_deep(word: Word, depth: u32) -> bool
     }
 }
 
-// How many parentheses are open behind a word.
+// How many parentheses are open after a word.
 fn open_behind(word: Word, depth: u32) -> u32
     requires { open_behind word depth ≤ MOST_OPEN }
     ensures { result ≡ open_behind word depth }

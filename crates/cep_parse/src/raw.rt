@@ -27,7 +27,7 @@ pub struct RawNode {
 }
 
 /// An atom: its name, the number of its arguments, and these in prefix order: each term is its
-/// own node, and behind it stand the nodes of its arguments. Parentheses leave no node.
+/// own node, and after it stand the nodes of its arguments. Parentheses leave no node.
 #[derive(Drop)]
 pub struct RawAtom {
     pub name: Span,

@@ -175,7 +175,7 @@ fn right_begun(alloc: Global, rule: RuleSoFar) -> RuleSoFar
     }
 }
 
-/// Behind an element.
+/// After an element.
 pub(crate) fn behind_elem(
     alloc: Global,
     rule: RuleSoFar,

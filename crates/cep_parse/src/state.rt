@@ -90,13 +90,13 @@ pub(crate) struct RuleSoFar {
 pub(crate) enum RulePlace {
     /// An element is to come.
     Before,
-    /// Behind `$`.
+    /// After `$`.
     Kept,
-    /// Behind `(`.
+    /// After `(`.
     Unit,
-    /// Behind `stage`.
+    /// After `stage`.
     Stage,
-    /// Behind an element.
+    /// After an element.
     Behind,
 }
 
@@ -131,20 +131,20 @@ pub(crate) struct BagSoFar {
 /// Where in a bag.
 #[derive(Clone, Copy)]
 pub(crate) enum BagPlace {
-    /// Behind `{`.
+    /// After `{`.
     First,
-    /// Behind `,` or `*`.
+    /// After `,` or `*`.
     Next,
-    /// Behind `(`.
+    /// After `(`.
     Unit,
-    /// Behind an element.
+    /// After an element.
     Behind,
 }
 
 /// What an atom is read for.
 #[derive(Drop)]
 pub(crate) enum Use {
-    /// The first atom of a clause or of an outer rule, behind its label if it has one.
+    /// The first atom of a clause or of an outer rule, after its label if it has one.
     First { at: u32, label: Option<Span> },
     Goal(ClauseSoFar),
     Elem { rule: RuleSoFar, kept: bool },

@@ -34,7 +34,7 @@ fn head_alone(alloc: Global, label: Option<Span>, head: RawAtom) -> RawItem
     }
 }
 
-// Behind the first atom of a clause or of an outer rule.
+// After the first atom of a clause or of an outer rule.
 fn behind_head(
     alloc: Global,
     at: u32,
@@ -65,7 +65,7 @@ fn behind_head(
     }
 }
 
-// Behind a goal.
+// After a goal.
 fn behind_goal(mut clause: ClauseSoFar, goal: RawAtom, symbol: Symbol) -> Result<Next, AllocError>
     ensures { IfOk result (λ next. next ≡ behind_goal (with_goal clause goal) symbol.word) }
 {
@@ -84,7 +84,7 @@ fn behind_goal(mut clause: ClauseSoFar, goal: RawAtom, symbol: Symbol) -> Result
     }
 }
 
-// Behind an atom, by what it was read for.
+// After an atom, by what it was read for.
 fn behind_atom(alloc: Global, used: Use, atom: RawAtom, symbol: Symbol) -> Result<Next, AllocError>
     ensures { IfOk result (λ next. next ≡ behind_atom used atom symbol.word) }
 {
@@ -119,7 +119,7 @@ fn step_atom(
     }
 }
 
-// Behind names and their colon.
+// After names and their colon.
 fn names_begun(name: Span, args: Spans) -> Next
     ensures { result ≡ names_begun name args }
 {
@@ -129,7 +129,7 @@ fn names_begun(name: Span, args: Spans) -> Next
     Next::Go(State::Declared { name, args })
 }
 
-// Behind names.
+// After names.
 fn step_names(
     alloc: Global,
     name: Span,
@@ -162,7 +162,7 @@ fn names_ended(alloc: Global, name: Span, args: Spans, symbol: Symbol) -> Result
     step_atom(alloc, atom, used, symbol)
 }
 
-// Behind names and their colon, where they are a declaration.
+// After names and their colon, where they are a declaration.
 fn step_declared(name: Span, args: Spans, symbol: Symbol) -> Next
     ensures { result ≡ step_declared name args symbol.word symbol.at }
 {
@@ -212,7 +212,7 @@ fn step_rules(stage: StageSoFar, symbol: Symbol) -> Next
     }
 }
 
-// Behind the label of a rule in a stage.
+// After the label of a rule in a stage.
 fn rule_named(alloc: Global, stage: StageSoFar, label: Span, symbol: Symbol) -> Next
     ensures { result ≡ rule_named stage label symbol.word }
 {

@@ -166,7 +166,7 @@ module _ {H : Type 0} (files : H → Option Files) (asked : H → Option (List (
   examined ticks ticks' (Ok report) second found = transcript_of whole ticks ticks' (report_of report) task file log program is_in (both second) (found_so (report_of report) found)
   examined ticks ticks' (Err error) second found = tt
 
-  -- the transcript could not be had for want of memory
+  -- the transcript could not be had for out of memory
   pub examined_in_vain : {T E : Type 0} (answer : Result T E) → AsksFile (loaded files asked faults mid new) log answer → OnErr answer (AsksUpTo whole (Examine task file log) ⊎ (asked new ≡ asked old))
   examined_in_vain (Ok report) second = tt
   examined_in_vain (Err error) (inl second) = inl (inl ((is_in.0, is_in.1, (program, is_in.2.0)), both second))

@@ -15,7 +15,7 @@ IsDueOf (Examine task file log) outside due = IsExaminationDue task file log out
 IsDueOf (Dead file) outside due = IsDeadDue file outside due
 IsDueOf (World rooms options) outside due = IsWorldDue rooms options outside due
 
--- this is due of words: the usage line where they have no form, and else what is due of what they ask for
+-- this is due of words: the usage line where they are malformed, and else what is due of what they ask for
 abbrev pub IsDue : List (List ℕ) → Outside → Due → Type 0
 IsDue words outside due = (HaveNoForm words × (due ≡ report_due (line_report usage 2) [] outside.come)) ⊎ OfRequest words (λ request. IsDueOf request outside due)
 

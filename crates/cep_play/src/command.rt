@@ -67,7 +67,7 @@ fn command<C: Console, H: Shelf, L: Ledger>(
 /// |---|---|
 /// | 0 | the run ended in quiet or at the end of the input; the transcript is accepted or renewed, its graph is listed or its steps are done again; no claim is broken; dead rules are reported |
 /// | 1 | the second file is not accepted, or the new text is too long; the line says which |
-/// | 2 | the words have no form; the usage line was written |
+/// | 2 | the words are malformed; the usage line was written |
 /// | 3 | the program's text is refused; the line that says so was written |
 /// | 4 | the run ended by a limit |
 /// | 5 | some claim is broken; each claim has its line; or a step of another order leads to a state that does not fit |

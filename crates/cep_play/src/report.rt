@@ -16,7 +16,7 @@ pub(crate) enum Status {
     Done,
     /// The transcript is not accepted, or its new text is too long.
     Rejected,
-    /// The words have no form.
+    /// The words are malformed.
     Malformed,
     /// The program's text is refused.
     Refused,

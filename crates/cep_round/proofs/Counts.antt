@@ -54,7 +54,7 @@ module _ (laws : BagLaws) (program : Parts) where
       ∙ held_join (is_fact program.signature a) (count_of (side program offer) a) (count_all side a offers)
       ∙ ap (held (is_fact program.signature a)) (sym (sum_by-cons (λ (o : Offer). count_of (side program o) a) offer offers))
 
-  -- what is used, and what those need that are admitted behind it, is there
+  -- what is used, and what those need that are admitted after it, is there
   admitted_there : (state used : Multiset) (offers : List Offer) (flags : List Bool) (a : AtomTree) → AreAdmitted program state used offers flags → held (is_fact program.signature a) (count_of used a) ≤ count_of state a
       → held (is_fact program.signature a) (count_of used a + count_all needs a (admitted offers flags)) ≤ count_of state a
   admitted_there state used [] [] a are within = nothing_more (is_fact program.signature a) (count_of used a) (count_of state a) within

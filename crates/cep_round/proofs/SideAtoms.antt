@@ -107,7 +107,7 @@ module _ (laws : RoundLaws) (program : Parts) where
   all_gathered side atoms_by same [] are a = grind (arith, laws.bags.empty, program.signature)
   all_gathered side atoms_by same (offer ∷ offers) are a = grind (arith, join_count, both_held, same, laws.bags, laws.bags.joined_count, program.signature, are.0, are.1, all_gathered side atoms_by same offers are.1 a)
 
--- lists that stand one behind the other are as long as so many of the longest
+-- lists that stand one after the other are as long as so many of the longest
 pub flat_few : {A B : Type 0} (f : A → List B) (P : A → Type 0) (most : ℕ) (xs : List A) → ((x : A) → P x → length (f x) ≤ most) → AllByRecursion P xs → length (flat_map f xs) ≤ most * length xs
 flat_few f P most [] few all = omega arith
 flat_few f P most (x ∷ xs) few all = let one = few x all.0 in let more = flat_few f P most xs few all.1 in rw length-append (grind arith)

@@ -1,5 +1,5 @@
 -- Private.
--- The atoms of both sides of offers, one behind the other.
+-- The atoms of both sides of offers, one after the other.
 use Rattle.std.specs.Prelude.{◌≡◌, ◌++◌, List, [], slice_get, option_map, unwrap_or, Some}
 use Rattle.cep_term.specs.Tree.{AtomTree}
 use Rattle.cep_rule.specs.declared.rule.Rule.{Rule}

@@ -61,7 +61,7 @@ pub record IsDividedClause (signature : Signature) (clause : ClauseTree) : Type 
   pub head : IsBackward signature clause.head
   pub goals : AllByRecursion (IsBackward signature) clause.goals
 
--- A rule is in a group of some stage, and it names a next stage exactly where it leaves its own.
+-- A rule is in a group of some stage, and it names a next stage if and only if it leaves its own.
 pub record IsGroupedRule (stages : ℕ) (rule : Rule) : Type 0 where
   pub in_range : rule.group < 2 * stages
   pub leaves : IsSome rule.next ↔ (rule.group % 2 ≡ 1)

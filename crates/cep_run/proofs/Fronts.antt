@@ -1,4 +1,4 @@
--- What was said before a part of a run was refused is a front of a whole.
+-- What was said before a part of a run was refused is a prefix of a whole.
 use Rattle.std.proofs.Common.{◌≡◌, inl, inr, ℕ, zero, suc, ◌+◌, ◌<◌, List, [], ◌∷◌, ◌++◌, length, take, append_assoc, append-nil, Option, refl, sym, ap, ◌∙◌, subst, arith}
 use Rattle.std.specs.Prelude.{drop}
 use Rattle.std.proofs.lemmas.Bool.{cases_lt}
@@ -40,7 +40,7 @@ pub put_on : (text come : List ℕ) (events : List Event) (rest : List ℕ) → 
 put_on text come events rest put = (outs (drop put.size text), ap (λ es. es ++ outs (drop put.size text)) put.said ∙ outs_cut put.size text)
 
 module _ {C : Type 0} (talk : C → Option (List Event)) (left : C → Option (List ℕ)) where
-  -- a front of a text was put
+  -- a prefix of a text was put
   pub did_part : (old new : C) (bytes text : List ℕ) (size : ℕ) → bytes ≡ text → GoesOn (talk old) (outs (take size bytes)) (talk new) → left new ≡ left old → Did talk left old new (PutsFront text)
   did_part old new bytes text size is went kept =
       did_map talk left old new _ (PutsFront text) (λ come events rest put. record { size = size; said = put.0 ∙ ap (λ all. outs (take size all)) is; untaken = put.1 }) (did_put talk left old new (take size bytes) went kept)
@@ -70,7 +70,7 @@ reads_on (suc room) (byte ∷ bytes) rest unbroken short =
     }
 
 module _ (n : ℕ) where
-  -- some choice is heard behind a line
+  -- some choice is heard after a line
   line_on : (come : List ℕ) (taken : ℕ) (cut : Cut) (line : List ℕ) (events : List Event) (rest : List ℕ) (more : ℕ) → ReadsLine (room_after taken) come events cut rest more → IsLine cut line → BeginsSome (HearsSome n taken) come events
   line_on come taken cut line events rest more reads is = elim (chooses_or_not n line) [
     | inl some ↦ record { more = []; left = rest; whole = (Place some.0, taken + more, subst (λ es. Hears n come taken es (Place some.0) rest (taken + more)) (sym (append-nil events)) (chosen cut line more reads is some.1 refl)) }
@@ -96,7 +96,7 @@ module _ (n : ℕ) where
       ap (λ es. es ++ front.more) (on.says ∙ ap (λ es. es ++ on.more) (sym short.said)) ∙ append_assoc events on.more front.more in
       record { more = on.more ++ front.more; left = front.left; whole = (front.whole.0, front.whole.1, subst (λ es. Hears n come taken es front.whole.0 front.left front.whole.1) said front.whole.2) }
 
-  -- a choice that was cut short is a front of one that is heard
+  -- a choice that was cut short is a prefix of one that is heard
   pub hears_on : {come : List ℕ} {taken : ℕ} {events : List Event} {rest : List ℕ} → HearsFront n come taken events rest → BeginsSome (HearsSome n taken) come events
   hears_on {come} {taken} {events} {rest} (line_cut short) = short_on come taken events rest short
   hears_on {come} {taken} {events} {rest} (answer_cut cut line more size first reads is none whole) =
@@ -119,14 +119,14 @@ module _ (text : List ℕ) (n taken : ℕ) where
   pub asks_after : (choice : Choice) (taken' : ℕ) → Joins (IsPut text) (λ come events rest. Hears n come taken events choice rest taken') (AsksPlayer text n taken choice taken')
   asks_after choice taken' come first middle others rest put hears = record { heard = others; hears = rw (sym put.1) hears; whole = rw put.0 refl }
 
-  -- a front of the text was put
+  -- a prefix of the text was put
   pub asks_on : Maps (PutsFront text) (Short (λ come. come) (AsksSome text n taken))
   asks_on come events rest put =
       let (more, written) = put_on text come events rest put in
       let later = hears_there n come taken in
       (record { more = more ++ later.events; left = later.rest; whole = (later.choice, later.all, record { heard = later.events; hears = later.hears; whole = rw (sym (append_assoc events more later.events), written) refl }) }, put_left text come events rest put)
 
-  -- the text was put, and a front of a choice was heard
+  -- the text was put, and a prefix of a choice was heard
   pub hears_behind : Joins (IsPut text) (Short (λ come. come) (HearsSome n taken)) (Short (λ come. come) (AsksSome text n taken))
   hears_behind come first middle others rest put (begun, left) =
       let (choice, all, hears) = begun.whole in

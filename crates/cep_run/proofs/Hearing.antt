@@ -26,7 +26,7 @@ pub data HearsFront (n : ℕ) : List ℕ → ℕ → List Event → List ℕ →
 abbrev ReadsSaid : ℕ → ℕ → Said → ℕ → List ℕ → List Event → List ℕ → Type 0
 ReadsSaid n room said taken come events rest = (cut : Cut) × ReadsLine room come events cut rest taken × IsHeardAs n cut said
 
--- whatever comes of the choice from now on comes of it from the start, behind what was said so far
+-- whatever comes of the choice from now on comes of it from the start, after what was said so far
 pub record Awaits (n start taken : ℕ) (come : List ℕ) (events : List Event) (rest : List ℕ) : Type 0 where
   pub goes_on : {later : List Event} {result : Choice} {end : List ℕ} {all : ℕ} → Hears n rest taken later result end all → Hears n come start (events ++ later) result end all
   pub goes_short : {later : List Event} {end : List ℕ} → HearsFront n rest taken later end → HearsFront n come start (events ++ later) end
@@ -65,7 +65,7 @@ written_short {n} {room} {more} {size} {come} {first} bad put = record {
   answered = ap (λ written. first ++ written) (put.0 ∙ ap (λ bytes. outs (take size bytes)) (sym no_line-bytes));
 }
 
--- One line behind what was said
+-- One line after what was said
 
 module _ {n start taken : ℕ} {come : List ℕ} {first : List Event} {middle : List ℕ} (before : Awaits n start taken come first middle) where
   bad_behind : {more : ℕ} {others : List Event} {rest : List ℕ} → AfterBad n (room_after taken) more middle others rest → Awaits n start (taken + more) come (first ++ others) rest

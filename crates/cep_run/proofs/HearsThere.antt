@@ -13,7 +13,7 @@ use Rattle.cep_run.specs.Choice.{IsChoiceWithin, room_after, no_line, Hears, cho
 
 -- Which place a line chooses
 
--- the line spells this number, and maybe one CR behind it
+-- the line spells this number, and maybe one CR after it
 abbrev Spells : List ℕ → ℕ → Type 0
 Spells line place = (line ≡ decimal place) ⊎ (line ≡ decimal place ++ 13 ∷ [])
 
@@ -97,7 +97,7 @@ line_there (suc room) (byte ∷ come) = elim (cases_eq byte 10) [
 
 -- One choice
 
--- a choice among n is heard from the bytes to come, behind those that were taken
+-- a choice among n is heard from the bytes to come, after those that were taken
 pub record HasHearing (n : ℕ) (come : List ℕ) (taken : ℕ) : Type 0 where
   pub events : List Event
   pub choice : Choice

@@ -24,12 +24,12 @@ use Rattle.cep_run.specs.Turn.{position_of, supply_with, DoesTurn, Stops, IsTurn
 use Rattle.cep_base.proofs.Did.{did_then}
 use Rattle.cep_run.proofs.Unheard.{Short, Joins, Maps, left_then, so_left}
 
--- one more turn behind others
+-- one more turn after others
 turns_behind : (program : Parts) (settings : Settings) (at : Position) (from : Supply) (turns : List Turn) (last : Position) (between : Supply) (turn : Turn) → AreTurns program settings at from turns last between → IsTurn program settings last between turn → AreTurns program settings at from (turns ++ turn ∷ []) turn.deed.after turn.left
 turns_behind program settings at from [] last between turn done is = (subst (λ place. IsTurn program settings place from turn) done.0 (subst (λ supply. IsTurn program settings last supply turn) done.1 is), (refl, refl))
 turns_behind program settings at from (first ∷ turns) last between turn done is = (done.0, turns_behind program settings first.deed.after first.left turns last between turn done.1 is)
 
--- and its offers behind those that were listed
+-- and its offers after those that were listed
 listed_behind : (turns : List Turn) (turn : Turn) → offers_listed (turns ++ turn ∷ []) ≡ offers_listed turns + length turn.question.offers
 listed_behind [] turn = omega arith
 listed_behind (first ∷ turns) turn = let more = listed_behind turns turn in omega (arith, more)
@@ -101,7 +101,7 @@ turn_stops talk left old between new program settings start config spent spent' 
     (run_stops program settings start (position_of config) spent offers counts' end.word spent' come first middle second rest (still_counted program settings start (position_of config) spent offers counts counts' (still over.2) come first middle so) stop))
     so_far over.0
 
--- a run goes on behind turns that are done
+-- a run goes on after turns that are done
 turns_join : (program : Parts) (settings : Settings) (at : Position) (from : Supply) (turns : List Turn) (middle : Position) (between : Supply) (others : List Turn) (last : Position) (to : Supply) → AreTurns program settings at from turns middle between → AreTurns program settings middle between others last to → AreTurns program settings at from (turns ++ others) last to
 turns_join program settings at from [] middle between others last to done more = subst (λ place. AreTurns program settings place from others last to) done.0 (subst (λ supply. AreTurns program settings middle supply others last to) done.1 more)
 turns_join program settings at from (turn ∷ turns) middle between others last to done more = (done.0, turns_join program settings turn.deed.after turn.left turns middle between others last to done.1 more)

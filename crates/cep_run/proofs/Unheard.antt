@@ -57,7 +57,7 @@ front_nil : (first others : List ℕ) → first ++ others ≡ [] → first ≡ [
 front_nil [] others e = refl
 front_nil (byte ∷ first) others e = absurd (cc)
 
--- one stretch behind another
+-- one stretch after another
 pub left_then : (come : List ℕ) (first : List Event) (middle : List ℕ) (others : List Event) (rest : List ℕ) → LeavesUnheard come first middle → LeavesUnheard middle others rest → LeavesUnheard come (first ++ others) rest
 left_then come first middle others rest one two =
     one ∙ ap (λ bytes. heard_bytes first ++ bytes) two ∙ sym (append_assoc (heard_bytes first) (heard_bytes others) rest) ∙ ap (λ bytes. bytes ++ rest) (sym (heard_append first others))
@@ -69,7 +69,7 @@ unheard_left come events rest none same = sym (ap (λ bytes. bytes ++ rest) none
 pub outs_left : (bytes come : List ℕ) (events : List Event) (rest : List ℕ) → (events ≡ outs bytes) × (rest ≡ come) → LeavesUnheard come events rest
 outs_left bytes come events rest put = unheard_left come events rest (ap heard_bytes put.0 ∙ outs_unheard bytes) put.1
 
--- what is heard behind a text is gone, as the text takes nothing
+-- what is heard after a text is gone, as the text takes nothing
 pub text_then : (text : List ℕ) → Joins (IsPut text) LeavesUnheard LeavesUnheard
 text_then text come first middle second rest put left = left_then come first middle second rest (outs_left text come first middle put) left
 
@@ -94,7 +94,7 @@ line_left room come events (Last line) rest taken is =
 line_left room come events Nothing rest taken is = bytes_left [] come events rest (ap heard_bytes is.3) (is.0 ∙ sym is.1)
 line_left room come events (Full bytes) rest taken is = bytes_left bytes come events rest (ap heard_bytes is.3 ∙ ins_heard bytes) is.0
 
--- a line that chose nothing, its answer, and what was heard behind it
+-- a line that chose nothing, its answer, and what was heard after it
 bad_left : (come between rest : List ℕ) (first others events : List Event) → LeavesUnheard come first between → LeavesUnheard between others rest → events ≡ first ++ (outs no_line ++ others) → LeavesUnheard come events rest
 bad_left come between rest first others events line behind whole =
     let answered = left_then between (outs no_line) between others rest (outs_left no_line between (outs no_line) between (refl, refl)) behind in
@@ -127,7 +127,7 @@ module _ (asking : List ℕ) (program : Parts) (seed stage group : ℕ) (offers 
   pub settles_left : (old : Spent) (choice : Choice) (new : Spent) → Maps (Settles asking program seed stage group offers old choice new) LeavesUnheard
   settles_left old choice new come events rest settles = rw settles.whole (decides_left _ settles.how choice _ settles.decides)
 
--- nothing was said of a step, or a front of its lines
+-- nothing was said of a step, or a prefix of its lines
 pub act_left : (program : Parts) (height : ℕ) (offers : List Offer) (place : ℕ) (old : Position) (come : List ℕ) (events : List Event) (rest : List ℕ) → BeginsAct program height offers place old come events rest → LeavesUnheard come events rest
 act_left program height offers place old come events rest (inl nothing) = outs_left [] come events rest nothing
 act_left program height offers place old come events rest (inr on) =

@@ -15,7 +15,7 @@ use Rattle.cep_log.specs.Holding.{lines_of_deed}
 use Rattle.cep_step.specs.Deeds.{Position}
 use Rattle.cep_run.specs.Turn.{AsksPlayer, Settles, Acts}
 
--- A front of the text was written, and nothing was taken.
+-- A prefix of the text was written, and nothing was taken.
 pub record PutsFront (text come : List ℕ) (events : List Event) (rest : List ℕ) : Type 0 where
   pub size : ℕ
   pub said : events ≡ outs (take size text)
@@ -46,7 +46,7 @@ pub record ActsOn (program : Parts) (height : ℕ) (offers : List Offer) (place 
   pub more : List Event
   pub acts : Acts program height offers place old next come (events ++ more) rest
 
--- Nothing was said of a step, or a front of its lines.
+-- Nothing was said of a step, or a prefix of its lines.
 abbrev pub BeginsAct : Parts → ℕ → List Offer → ℕ → Position → List ℕ → List Event → List ℕ → Type 0
 BeginsAct program height offers place old come events rest =
     ((events ≡ []) × (rest ≡ come)) ⊎ ActsOn program height offers place old come events rest

@@ -45,7 +45,7 @@ abbrev pub supply_with : List ℕ → Spent → Supply
 supply_with come spent = record { come = come; taken = spent.taken; drawn = spent.drawn }
 
 -- What was spent in so many turns of a run with this seed: no more bytes than may be taken, no more
--- words than turns, and the next words are those behind them.
+-- words than turns, and the next words are those after them.
 pub record HasSpent (seed turns : ℕ) (spent : Spent) : Type 0 where
   pub taken : spent.taken ≤ MOST_TYPED
   pub drawn : spent.drawn ≤ turns

@@ -21,7 +21,7 @@ pub enum Choice {
 }
 
 /// Reads lines until one chooses a place among `n`. `taken` is the number of bytes of the run. A
-/// refused call heard a front of some choice.
+/// refused call heard a prefix of some choice.
 pub fn choose<C: Console>(console: &mut C, n: u32, taken: &mut u64) -> Result<Choice, ConsoleFault>
     requires { taken.old ≤ MOST_TYPED }
     ensures heard { IfOk result (λ choice.

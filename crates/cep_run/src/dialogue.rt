@@ -141,7 +141,7 @@ pub fn finish<C: Console>(
 
 /// Plays a program with these settings and the person at a console, from its start until the run
 /// ends. The height is 1 to 512, and the turns are at most 1,000,000. Answers what the run came to.
-/// Only a fault of the console and want of memory are refused, and then what was said and heard
+/// Only a fault of the console and out of memory are refused, and then what was said and heard
 /// begins some dialogue, and what was heard is gone from what is to be typed. The counter rises by no
 /// more than what the matcher may tick for the start and for the deeds of the very turns that are said,
 /// and one for each backward premise of what is done in them.

@@ -6,7 +6,7 @@
 //! after another, and each that meets it is followed before the next. No entry is taken more often than
 //! it has copies, but for facts, one copy of which meets any number of premises. Then each backward
 //! premise is asked of backward chaining, and each of its answers is followed before the next. What was
-//! found of a rule is sorted, and put behind what its group's rules before it have.
+//! found of a rule is sorted, and put after what its group's rules before it have.
 #![tactic(auto)]
 
 mod backs;

@@ -35,7 +35,7 @@ text_alone text = record { text = text; file = [] }
 abbrev pub IsNamed : {T : Type 0} → List ℕ → (T → Span) → Table T → Type 0
 IsNamed text span table = IsTable (map (λ item. named (text_alone text) (span item)) table.items.items) table
 
--- how many rules without a label there are behind some
+-- how many rules without a label there are after some
 abbrev pub unlabelled_over : ℕ → List RuleItem → ℕ
 unlabelled_over unlabelled [] = unlabelled
 unlabelled_over unlabelled (rule ∷ rules) = unlabelled_over (unlabelled_behind unlabelled rule.raw.label) rules

@@ -27,7 +27,7 @@ abbrev pub rule_name : Source → ℕ → Option Span → List ℕ
 rule_name source unlabelled (Some label) = said source label
 rule_name source unlabelled None = codes "qui/" ++ decimal (unlabelled + 1)
 
--- how many rules without a label there are behind one with this label
+-- how many rules without a label there are after one with this label
 abbrev pub unlabelled_behind : ℕ → Option Span → ℕ
 unlabelled_behind unlabelled (Some label) = unlabelled
 unlabelled_behind unlabelled None = unlabelled + 1

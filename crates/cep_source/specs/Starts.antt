@@ -43,7 +43,7 @@ abbrev pub is_written_alike : Source → RawAtom → RawAtom → Bool
 is_written_alike source one other =
     bytes_eq (said source one.name) (said source other.name) && (one.args == other.args) && are_nodes_alike source one.nodes other.nodes
 
--- the atoms that count, behind others: all but a fact that is written like one before it
+-- the atoms that count, after others: all but a fact that is written like one before it
 abbrev pub counting_behind : Source → List RawAtom → List RawAtom → List RawAtom
 counting_behind source before [] = []
 counting_behind source before (atom ∷ atoms) =

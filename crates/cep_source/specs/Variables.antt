@@ -21,7 +21,7 @@ occurrence_at source blanks span kind.Var = record { name = said source span; at
 occurrence_at source blanks span kind.Blank = record { name = codes "_" ++ decimal (blanks + 1); at = span } ∷ []
 occurrence_at source blanks span kind.App = []
 
--- how many blanks there are behind a node, where there were so many before it
+-- how many blanks there are after a node, where there were so many before it
 abbrev pub blanks_behind : ℕ → RawKind → ℕ
 blanks_behind blanks kind.Blank = blanks + 1
 blanks_behind blanks kind.Var = blanks
@@ -33,7 +33,7 @@ occurrences_from source blanks [] = []
 occurrences_from source blanks (node ∷ nodes) =
     occurrence_at source blanks node.at node.kind ++ occurrences_from source (blanks_behind blanks node.kind) nodes
 
--- how many blanks there are behind nodes
+-- how many blanks there are after nodes
 abbrev pub blanks_after : ℕ → List RawNode → ℕ
 blanks_after blanks [] = blanks
 blanks_after blanks (first ∷ nodes) = blanks_after (blanks_behind blanks first.kind) nodes

@@ -18,7 +18,7 @@ pub struct Variables {
     pub blanks: u64,
 }
 
-/// How many blanks there are behind a node, where so many stand before it.
+/// How many blanks there are after a node, where so many stand before it.
 pub fn blanks_behind(blanks: u64, kind: RawKind) -> Result<u64, AllocError>
     ensures { IfOk result (λ behind. behind ≡ blanks_behind blanks kind) }
 {

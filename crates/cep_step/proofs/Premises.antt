@@ -64,7 +64,7 @@ module _ (signature : Signature) (premises : List PremiseTree) (n : ℕ) (premis
       by false true e = ap (λ t. cond (not t) (premise.atom ∷ []) []) e
       by false false e = refl
 
--- some atoms more, behind what is there already
+-- some atoms more, after what is there already
 pub more_behind : (values : List Tree) (initial front more atoms old new : List AtomTree) → atoms ≡ front ++ more → old ≡ initial ++ full_instances values front → new ≡ old ++ full_instances values more → new ≡ initial ++ full_instances values atoms
 more_behind values initial front more atoms old new longer so_far gained =
     gained ∙ ap (λ xs. xs ++ full_instances values more) so_far

@@ -12,7 +12,7 @@ use cep_term::Atom;
 use std::alloc::{AllocError, Global};
 
 /// The instance of the atom by these values, if it is fit: one that is not is never built. Each
-/// variable needs to have a value. The limits of an atom are this profile's. Only want of memory is
+/// variable needs to have a value. The limits of an atom are this profile's. Only out of memory is
 /// refused.
 pub fn fit_instance(alloc: Global, atom: &Atom, values: &Terms) -> Result<Option<Atom>, AllocError>
     requires { IsAtomInRange (length values.now) (atom_of atom.now) }

@@ -41,7 +41,7 @@ impl Model for Spot {
 }
 
 impl Spot {
-    /// Where every run of the program begins. Only want of memory is refused.
+    /// Where every run of the program begins. Only out of memory is refused.
     pub fn start(alloc: Global, program: &Program) -> Result<Spot, AllocError>
         ensures start { IfOk result (λ spot. spot ≡ start_spot program.now) }
         ensures of_program { IfOk result (IsSpotOf program.now) }
@@ -70,7 +70,7 @@ impl Spot {
         &self.state
     }
 
-    /// Weighs a step from here by the rule with these values. Only want of memory is refused.
+    /// Weighs a step from here by the rule with these values. Only out of memory is refused.
     pub fn weigh(
         &self,
         alloc: Global,

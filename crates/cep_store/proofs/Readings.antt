@@ -36,7 +36,7 @@ terms_pushed : (terms : List Tree) (keys : List (List ℕ)) (key : List ℕ) →
 terms_pushed terms [] key = refl
 terms_pushed terms (other ∷ keys) key = terms_pushed (terms ++ term_by terms other ∷ []) keys key
 
--- a key behind the others adds its term
+-- a key after the others adds its term
 pub terms_push : (keys : List (List ℕ)) (key : List ℕ) → terms_by (keys ++ key ∷ []) ≡ terms_by keys ++ term_by (terms_by keys) key ∷ []
 unfolding terms_by
 terms_push keys key = terms_pushed [] keys key

@@ -59,7 +59,7 @@ module _ (old new atoms : List (List ℕ)) (were : AreKeys old atoms) (are : Are
     pub keys_then : AreKeys new later
     keys_then = record { terms = are; apart = apart; atoms = each_later }
 
-    -- the atoms then are those of before, or the new one stands behind them
+    -- the atoms then are those of before, or the new one stands after them
     atoms_then : (atoms_by (terms_by new) later ≡ atoms_by (terms_by old) atoms) ⊎ (atoms_by (terms_by new) later ≡ atoms_by (terms_by old) atoms ++ atom_by (terms_by new) key ∷ [])
     atoms_then =
         ⊎_elim

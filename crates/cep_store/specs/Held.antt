@@ -47,7 +47,7 @@ AreApart {A} xs = (i j : ℕ) (x : A) → slice_get xs i ≡ Some x → slice_ge
 abbrev pub IsFrontOf : {A : Type 0} → List A → List A → Type 0
 IsFrontOf {A} earlier later = (behind : List A) × (later ≡ earlier ++ behind)
 
--- What was held is held under the same ids, and maybe more behind it.
+-- What was held is held under the same ids, and maybe more after it.
 pub record StaysHeld (old new : Held) : Type 0 where
   pub terms : IsFrontOf old.terms new.terms
   pub atoms : IsFrontOf old.atoms new.atoms

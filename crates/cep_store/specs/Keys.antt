@@ -14,7 +14,7 @@ abbrev pub atom_by : List Tree → List ℕ → AtomTree
 atom_by terms [] = record { pred = 0; args = none }
 atom_by terms (head ∷ ids) = record { pred = head; args = args_by terms ids }
 
--- some terms, and behind them those of keys that name terms before them
+-- some terms, and after them those of keys that name terms before them
 abbrev pub terms_from : List Tree → List (List ℕ) → List Tree
 terms_from terms [] = terms
 terms_from terms (key ∷ keys) = terms_from (terms ++ term_by terms key ∷ []) keys
@@ -49,7 +49,7 @@ pub record AreKeys (term_keys atom_keys : List (List ℕ)) : Type 0 where
   pub apart : AreApart atom_keys
   pub atoms : (id : ℕ) (key : List ℕ) → slice_get atom_keys id ≡ Some key → IsKey (length term_keys) key
 
--- The key stands at this place of the later keys, which are the earlier ones or have it behind them.
+-- The key stands at this place of the later keys, which are the earlier ones or have it after them.
 pub record TakesPlace (old : List (List ℕ)) (key : List ℕ) (id : ℕ) (new : List (List ℕ)) : Type 0 where
   pub stands : slice_get new id ≡ Some key
   pub place : (new ≡ old) ⊎ (new ≡ old ++ key ∷ [])

@@ -7,7 +7,7 @@ use crate::keys::Keys;
 use cep_term::{Args, Term};
 use std::alloc::{AllocError, Global};
 
-// The id of a ground term, which is added behind its parts where it is not there.
+// The id of a ground term, which is added after its parts where it is not there.
 #[cycle(intern)]
 fn intern_term(alloc: Global, terms: &mut Keys, t: &Term) -> Result<u64, AllocError>
     requires known { IsGround (tree_of t.now) }

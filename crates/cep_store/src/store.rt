@@ -60,7 +60,7 @@ impl Store {
     }
 
     /// The id of a ground atom: the one that it has where it is there, and else the next one. Its
-    /// arguments are then held as terms. Only want of memory is refused; after it the atoms are as
+    /// arguments are then held as terms. Only out of memory is refused; after it the atoms are as
     /// before, and parts of this atom may be held.
     pub fn intern(&mut self, a: &Atom) -> Result<u64, AllocError>
         requires { IsGroundAtom (atom_of a.now) }
@@ -183,7 +183,7 @@ impl Store {
         parts[i as usize]
     }
 
-    /// The atom with this id. Only want of memory is refused.
+    /// The atom with this id. Only out of memory is refused.
     pub fn atom_of(&self, alloc: Global, atom: u64) -> Result<Atom, AllocError>
         requires { atom < length self.now.atoms }
         ensures { IfOk result (λ a. slice_get self.now.atoms atom ≡ Some (atom_of a)) }
@@ -195,7 +195,7 @@ impl Store {
         })
     }
 
-    /// The term with this id. Only want of memory is refused.
+    /// The term with this id. Only out of memory is refused.
     pub fn term_of(&self, alloc: Global, term: u64) -> Result<Term, AllocError>
         requires { term < length self.now.terms }
         ensures { IfOk result (λ t. slice_get self.now.terms term ≡ Some (tree_of t)) }

@@ -20,7 +20,7 @@ then_Equal Less = refl
 then_Equal Equal = refl
 then_Equal Greater = refl
 
--- the numbers of trees compare as the trees do, and then as what stands behind them
+-- the numbers of trees compare as the trees do, and then as what stands after them
 mutual
   flat_cmp : (t u : Tree) (k l : List ℕ) → slice_cmp nat_cmp (flat t k) (flat u l) ≡ ordering_then (tree_cmp t u) (slice_cmp nat_cmp k l)
   flat_cmp (variable v) (variable w) k l = refl

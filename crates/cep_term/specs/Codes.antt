@@ -5,7 +5,7 @@ use Rattle.std.proofs.Common.{refl}
 use base.Stored.{coded_via}
 use Rattle.cep_term.specs.Tree.{Tree, Trees, AtomTree, variable, node, none, more}
 
--- the tree as numbers, in front of others
+-- the tree as numbers, before others
 abbrev mutual
   pub flat : Tree → List ℕ → List ℕ
   flat (variable v) behind = 0 ∷ v ∷ behind
@@ -19,7 +19,7 @@ abbrev mutual
 abbrev pub flat_atom : AtomTree → List ℕ
 flat_atom a = a.pred ∷ flats a.args []
 
--- Lists that begin with trees and are equal have equal trees, and the same behind them.
+-- Lists that begin with trees and are equal have equal trees, and the same after them.
 mutual
   pub flat_injective : (t u : Tree) (k l : List ℕ) → flat t k ≡ flat u l → (t ≡ u) × (k ≡ l)
   flat_injective (variable v) (variable w) k l e = (cc, cc)

@@ -58,7 +58,7 @@ IsEntry e = (0 < e.1) × IsGroundAtom e.0
 abbrev pub IsBag : Multiset → Type 0
 IsBag bag = AllByRecursion IsEntry (finite.entries bag)
 
--- A front of the atoms was added to the old multiset, and it is not the whole list.
+-- A prefix of the atoms was added to the old multiset, and it is not the whole list.
 pub record AddsFront (old new : Multiset) (atoms : List AtomTree) : Type 0 where
   pub added : ℕ
   pub before : added < length atoms

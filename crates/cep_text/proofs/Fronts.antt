@@ -8,7 +8,7 @@ use Rattle.cep_rule.specs.declared.signature.Signature.{Signature}
 use Rattle.cep_text.specs.Texts.{term_text, args_text}
 use Rattle.cep_text.specs.Writing.{IsBegun}
 
--- a front of the first piece was added
+-- a prefix of the first piece was added
 pub begun_first : (old one next new : List ℕ) → IsBegun old one new → IsBegun old (one ++ next) new
 begun_first old one next new begun = record {
   front = begun.front;
@@ -17,7 +17,7 @@ begun_first old one next new begun = record {
   added = begun.added;
 }
 
--- the first piece was added, and a front of what follows
+-- the first piece was added, and a prefix of what follows
 pub begun_then : (old one next mid new : List ℕ) → mid ≡ old ++ one → IsBegun mid next new → IsBegun old (one ++ next) new
 begun_then old one next mid new done begun = record {
   front = one ++ begun.front;
@@ -26,7 +26,7 @@ begun_then old one next mid new done begun = record {
   added = begun.added ∙ ap (λ text. text ++ begun.front) done ∙ append_assoc old one begun.front;
 }
 
--- of a term with arguments the parenthesis and the name were added, and a front of the arguments
+-- of a term with arguments the parenthesis and the name were added, and a prefix of the arguments
 pub enclosed_begun : {T E : Type 0} (r : Result T E) (signature : Signature) (tree : Tree) (c : ℕ) (args seen : Trees) (con : Con) (name old opened named new : List ℕ) (t : Tree) (rest : Trees)
     → tree ≡ node c args → slice_get signature.cons c ≡ Some con → name ≡ con.name → args ≡ more t rest → seen ≡ args
     → opened ≡ old ++ 40 ∷ [] → named ≡ opened ++ name → IsBegun named (args_text signature seen) new

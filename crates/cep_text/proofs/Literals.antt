@@ -8,7 +8,7 @@ unfolding literal_at
 literal_again [] rest = refl
 literal_again (letter ∷ word) rest = rw (eq-eqb letter letter refl) (literal_again word rest)
 
--- one byte of a word, behind the test whether it is there
+-- one byte of a word, after the test whether it is there
 found_byte : (letter byte : ℕ) (same : Bool) → eqb letter byte ≡ same → (word bytes rest : List ℕ) → (literal_at word bytes ≡ Some rest → bytes ≡ word ++ rest) → cond same (literal_at word bytes) None ≡ Some rest → byte ∷ bytes ≡ (letter ∷ word) ++ rest
 found_byte letter byte true t word bytes rest more e = let p = eqb-true letter byte t in let q = more e in cc
 found_byte letter byte false t word bytes rest more e = absurd cc

@@ -12,12 +12,12 @@ head_begun : (program : Parts) (tree : ProofTree) (old new : List ℕ) → IsBeg
 head_begun program (by_clause number values subs) old new begun =
     begun_first old (begin_text program number values) (proofs_text program subs ++ 93 ∷ []) new begun
 
--- a front of what stands before the goals
+-- a prefix of what stands before the goals
 pub node_begun : {T E : Type 0} (r : Result T E) (program : Parts) (tree : ProofTree) (old new : List ℕ)
     → IsBegun old (begin_of program tree) new → OnErr r (IsBegun old (proof_text program tree) new)
 node_begun r program tree old new begun = on_err r _ (head_begun program tree old new begun)
 
--- what stands before the goals, and a front of theirs
+-- what stands before the goals, and a prefix of theirs
 pub node_goes_on : {T E : Type 0} (r : Result T E) (program : Parts) (tree : ProofTree) (goals old mid new : List ℕ)
     → mid ≡ old ++ begin_of program tree → IsBegun mid goals new → proof_text program tree ≡ begin_of program tree ++ (goals ++ 93 ∷ [])
     → OnErr r (IsBegun old (proof_text program tree) new)

@@ -33,7 +33,7 @@ one_term program sort one other keeps a b e =
     let g = value_again signature keeps.named.cons other depth sort [] b.ground b.typed (omega arith) refl in
     ap (λ z. z.0) (one_read (value_at signature.cons depth sort) (term_text signature one ++ []) (term_text signature other ++ []) (one, []) (other, []) (ap (λ text. text ++ []) e) f g)
 
--- the bytes behind a parenthesis, if there is one
+-- the bytes after a parenthesis, if there is one
 abbrev unopened : Option (List ℕ) → List ℕ → List ℕ
 unopened None bytes = bytes
 unopened (Some inside) bytes = inside

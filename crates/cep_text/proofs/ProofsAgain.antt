@@ -86,7 +86,7 @@ begin_again program value number values subs rest keeps node apart =
       givens_again program.signature value clause.vars clause.kinds [] values rest (clause_as_many program number clause keeps node.numbered) node.read apart,
     ) refl
 
--- what stands behind the values of a node is no name
+-- what stands after the values of a node is no name
 goals_apart : (program : Parts) (subs : ProofTrees) (rest : List ℕ) → IsApart (proofs_text program subs ++ (codes "]" ++ rest))
 goals_apart program no_goal rest = refl
 goals_apart program (goal_by proof proofs) rest = refl

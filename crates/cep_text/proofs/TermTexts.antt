@@ -43,7 +43,7 @@ unfolding small_at
 small_again signature names t sort rest value small apart =
     rw (value_again signature names t MOST_DEPTH sort rest value.ground value.typed small.depth apart, le-leb (term_nodes t) MOST_NODES small.nodes) refl
 
--- where nothing stands behind what was read
+-- where nothing stands after what was read
 pub whole_is : {X : Type 0} (read : X × List ℕ) (x : X) → whole read ≡ Some x → (read.0 ≡ x) × (read.1 ≡ [])
 whole_is read x e =
     let parts = guard_some (eqb (length read.1) 0) read.0 x e in

@@ -1,5 +1,5 @@
 -- Private.
--- Reading canonical texts from left to right, on lists alone: each reading gives what stands at the front of the bytes, and the bytes behind it. Only functions inside this crate are described by it.
+-- Reading canonical texts from left to right, on lists alone: each reading gives what stands at the front of the bytes, and the bytes after it. Only functions inside this crate are described by it.
 use Rattle.std.specs.Prelude.{◌≡◌, ℕ, zero, suc, ◌==◌, ◌-◌, if◌then◌else◌, List, [], ◌∷◌, ◌++◌, length, take, drop, map, codes, decimal, Option, Some, None, Result, Ok, Err, slice_get, nat_le, bytes_eq}
 use Rattle.std.specs.List.{prefix_len}
 use Rattle.cep_base.specs.declared.limits.TheConstants.{MOST_DEPTH, MOST_NODES}
@@ -31,11 +31,11 @@ abbrev pub Gives : {X Y : Type 0} → (X → Y) → Result X Stop → Option Y �
 Gives view (Ok x) read = read ≡ Some (view x)
 Gives view (Err stop) read = Fails stop read
 
--- what is read at the front of bytes, and the bytes behind it
+-- what is read at the front of bytes, and the bytes after it
 abbrev pub Reader : Type 0 → Type 0
 Reader X = List ℕ → Option (X × List ℕ)
 
--- the bytes behind a word that stands at the front
+-- the bytes after a word that stands at the front
 unfoldable pub literal_at : List ℕ → List ℕ → Option (List ℕ)
 literal_at [] bytes = Some bytes
 literal_at (letter ∷ word) [] = None
@@ -45,7 +45,7 @@ literal_at (letter ∷ word) (byte ∷ bytes) = if letter == byte then literal_a
 abbrev pub name_len : List ℕ → ℕ
 name_len bytes = prefix_len is_name_byte bytes
 
--- the bytes of a name at the front, and those behind
+-- the bytes of a name at the front, and those after
 abbrev pub front_name : List ℕ → List ℕ
 front_name bytes = take (name_len bytes) bytes
 
@@ -88,7 +88,7 @@ bare_at cons sort bytes = do
   con ← con_at cons sort bytes
   if length con.0.1 == 0 then Some (node con.0.0 none, con.1) else None
 
--- an argument behind its space
+-- an argument after its space
 unfoldable pub argument_at : Reader Tree → Reader Tree
 argument_at value bytes = do
   behind ← literal_at (codes " ") bytes
@@ -109,14 +109,14 @@ inside_at value sorts bytes = do
   behind ← literal_at (codes ")") args.1
   Some (args.0, behind)
 
--- a constructor with arguments, behind its parenthesis
+-- a constructor with arguments, after its parenthesis
 unfoldable pub enclosed_at : (ℕ → Reader Tree) → List Con → ℕ → Reader Tree
 enclosed_at value cons sort bytes = do
   con ← con_at cons sort bytes
   args ← inside_at value con.0.1 con.1
   Some (node con.0.0 args.0, args.1)
 
--- a term behind its parenthesis, or without one
+-- a term after its parenthesis, or without one
 abbrev pub value_by : (ℕ → Reader Tree) → List Con → ℕ → Option (List ℕ) → Reader Tree
 value_by value cons sort None bytes = bare_at cons sort bytes
 value_by value cons sort (Some inside) bytes = enclosed_at value cons sort inside
@@ -132,7 +132,7 @@ small_at cons sort bytes = do
   value ← value_at cons MOST_DEPTH sort bytes
   if nat_le (term_nodes value.0) MOST_NODES then Some value else None
 
--- what was read, where nothing stands behind it
+-- what was read, where nothing stands after it
 abbrev pub whole : {X : Type 0} → X × List ℕ → Option X
 whole read = if length read.1 == 0 then Some read.0 else None
 
@@ -170,7 +170,7 @@ given_at value name bytes = do
   equals ← literal_at (codes "=") named
   value equals
 
--- what the variables of these names and types are given, behind the values before
+-- what the variables of these names and types are given, after the values before
 unfoldable pub givens_at : (ℕ → Reader Tree) → List (List ℕ) → List ℕ → List Tree → Reader (List Tree)
 givens_at value [] kinds before bytes = Some (before, bytes)
 givens_at value (name ∷ names) [] before bytes = None

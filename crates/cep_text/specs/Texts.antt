@@ -41,7 +41,7 @@ abbrev pub enclosed : Trees → List ℕ → List ℕ
 enclosed none text = text
 enclosed (more t rest) text = codes "(" ++ (text ++ codes ")")
 
--- The text of a ground term, as it stands as an argument: its constructor's name, and where it has arguments, in parentheses, one space and the text of each behind it. (A variable has no text.)
+-- The text of a ground term, as it stands as an argument: its constructor's name, and where it has arguments, in parentheses, one space and the text of each after it. (A variable has no text.)
 abbrev mutual
   pub term_text : Signature → Tree → List ℕ
   term_text signature (variable v) = []

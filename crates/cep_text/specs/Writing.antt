@@ -1,4 +1,4 @@
--- What a writer leaves behind where memory runs out.
+-- What a writer leaves where memory runs out.
 use Rattle.std.specs.Prelude.{◌≡◌, ℕ, List, ◌++◌}
 
 -- Of the text that was to be added, a front was.

@@ -9,7 +9,7 @@ use cep_base::Text;
 use cep_rule::{Derivation, Derivations, Program, Terms};
 use std::alloc::AllocError;
 
-/// Adds the text of a derivation. After want of memory a front of it was added.
+/// Adds the text of a derivation. After out of memory a prefix of it was added.
 #[cycle(derivation)]
 pub fn put_proof(program: &Program, d: &Derivation, out: &mut Text) -> Result<(), AllocError>
     requires { IsProofOf program.now (proof_of d.now) }

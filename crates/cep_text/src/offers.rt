@@ -11,7 +11,7 @@ use cep_rule::{Names, Offer, Program, Signature, Terms};
 use cep_term::Term;
 use std::alloc::AllocError;
 
-/// Adds the text of an offer. After want of memory a front of it was added.
+/// Adds the text of an offer. After out of memory a prefix of it was added.
 pub fn put_offer(program: &Program, offer: &Offer, out: &mut Text) -> Result<(), AllocError>
     requires { IsOfferOf program.now offer.now }
     ensures ok { OnOk result (out.new ≡ out.old ++ offer_text program.now offer.now) }

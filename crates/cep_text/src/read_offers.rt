@@ -14,9 +14,9 @@ use cep_rule::{Kinds, Names, Offer, Rule, Terms};
 use cep_term::Term;
 use std::alloc::{AllocError, Global};
 
-/// The offer that the bytes are the text of, or `None` exactly where they are the text of none: a
+/// The offer that the bytes are the text of, or `None` if and only if they are the text of none: a
 /// rule of the program, with one ground, well-typed term for each of its variables, each with at
-/// most 65,536 nodes and 512 levels. The form and the sizes are this profile's. Only want of memory
+/// most 65,536 nodes and 512 levels. The form and the sizes are this profile's. Only out of memory
 /// is refused.
 pub fn read_offer(
     alloc: Global,

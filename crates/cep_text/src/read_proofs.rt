@@ -13,11 +13,11 @@ use cep_base::limits::MOST_HEIGHT;
 use cep_rule::{Clause, Derivation, Derivations, Terms};
 use std::alloc::{AllocError, Global};
 
-/// The derivation that the bytes are the text of, or `None` exactly where they are the text of none.
+/// The derivation that the bytes are the text of, or `None` if and only if they are the text of none.
 /// Each node has a clause of the program, one ground, well-typed term for each of its variables,
 /// each with at most 65,536 nodes and 512 levels, and one derivation for each of its goals, which
 /// may be by a clause of another predicate. At most 512 brackets are open at once. The form and the
-/// sizes are this profile's. Only want of memory is refused.
+/// sizes are this profile's. Only out of memory is refused.
 pub fn read_proof(
     alloc: Global,
     vocabulary: &Vocabulary,

@@ -14,7 +14,7 @@ use cep_term::{Atom, Term};
 use std::alloc::{AllocError, Global};
 
 /// The term of this type that the bytes are the text of, as it stands as an argument, or `None`
-/// exactly where they are the text of none. It is ground and well typed, with at most 65,536 nodes
+/// if and only if they are the text of none. It is ground and well typed, with at most 65,536 nodes
 /// and 512 levels; the type may be any number. The form and the sizes are this profile's. Only want
 /// of memory is refused.
 pub fn read_term(
@@ -50,9 +50,9 @@ fn whole_term(alloc: Global, vocabulary: &Vocabulary, sort: u32, bytes: &[u8]) -
     Ok(t)
 }
 
-/// The atom that the bytes are the text of, or `None` exactly where they are the text of none. It is
+/// The atom that the bytes are the text of, or `None` if and only if they are the text of none. It is
 /// ground, well typed and fit, and its predicate may be of any kind. The form and the sizes are this
-/// profile's. Only want of memory is refused.
+/// profile's. Only out of memory is refused.
 pub fn read_atom(
     alloc: Global,
     vocabulary: &Vocabulary,

@@ -8,7 +8,7 @@ use cep_rule::{Program, Signature};
 use cep_term::{Args, Atom, Term};
 use std::alloc::AllocError;
 
-/// Adds the text of a ground term, as it stands as an argument. After want of memory a front of it
+/// Adds the text of a ground term, as it stands as an argument. After out of memory a prefix of it
 /// was added.
 pub fn put_term(program: &Program, term: &Term, out: &mut Text) -> Result<(), AllocError>
     requires { IsGroundTerm program.now.signature (tree_of term.now) }
@@ -20,7 +20,7 @@ pub fn put_term(program: &Program, term: &Term, out: &mut Text) -> Result<(), Al
     put_value(&program.parts().signature, term, out)
 }
 
-/// Adds the text of a ground atom. After want of memory a front of it was added.
+/// Adds the text of a ground atom. After out of memory a prefix of it was added.
 pub fn put_atom(program: &Program, atom: &Atom, out: &mut Text) -> Result<(), AllocError>
     requires { IsTypedGround program.now.signature (atom_of atom.now) }
     ensures ok { OnOk result (out.new

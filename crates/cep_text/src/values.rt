@@ -74,7 +74,7 @@ pub(crate) fn value<'a>(
     }
 }
 
-// A constructor with arguments, behind its parenthesis.
+// A constructor with arguments, after its parenthesis.
 #[cycle(value)]
 #[tactic(auto, unfolding(crate::specs::Reading::enclosed_at))]
 fn enclosed<'a>(
@@ -139,7 +139,7 @@ pub(crate) fn arguments<'a>(
     Ok((Args::Cons(first, Box::new(alloc, others)?), rest))
 }
 
-// An argument behind its space.
+// An argument after its space.
 #[cycle(value)]
 #[tactic(auto, unfolding(crate::specs::Reading::argument_at))]
 fn argument<'a>(

@@ -84,7 +84,7 @@ impl<'p> Model for Vocabulary<'p> {
 }
 
 impl<'p> Vocabulary<'p> {
-    /// The vocabulary of a program. Only want of memory is refused.
+    /// The vocabulary of a program. Only out of memory is refused.
     pub fn of(alloc: Global, program: &'p Program) -> Result<Vocabulary<'p>, AllocError>
         ensures { IfOk result (λ vocabulary. vocabulary ≡ program.now) }
     {

@@ -5,7 +5,7 @@ ghost use Rattle.cep_text.specs.Reading.{Gives, literal_at, name_len, numbered_b
 use crate::stop::Stop;
 use itoa::Buffer;
 
-// The bytes behind a word, if it stands at the front.
+// The bytes after a word, if it stands at the front.
 pub(crate) fn strip<'a>(word: &[u8], bytes: &'a [u8]) -> Option<&'a [u8]>
     ensures read { MatchOption result (literal_at word.now bytes.now ≡ None)
         (λ rest. literal_at word.now bytes.now ≡ Some rest.now) }
@@ -15,7 +15,7 @@ pub(crate) fn strip<'a>(word: &[u8], bytes: &'a [u8]) -> Option<&'a [u8]>
     bytes.strip_prefix(word)
 }
 
-// The bytes behind a word that must stand at the front.
+// The bytes after a word that must stand at the front.
 pub(crate) fn literal<'a>(word: &[u8], bytes: &'a [u8]) -> Result<&'a [u8], Stop>
     ensures read { Gives (λ rest. rest.now) result (literal_at word.now bytes.now) }
     ensures len { IfOk result (λ rest. length rest.now + length word.now ≡ length bytes.now) }

@@ -33,7 +33,7 @@ wanted_in source firsts = map (λ entry. record { name = entry.0; wants = said s
 abbrev pub further : List Wanted → Wanted → List Wanted
 further old next = if list_any (λ other. bytes_eq next.name other.name) old then old else old ++ next ∷ []
 
--- Where the old variables were met, the new ones are met behind these atoms, each node of which has its type.
+-- Where the old variables were met, the new ones are met after these atoms, each node of which has its type.
 pub record AreMet (source : Source) (atoms : List RawAtom) (old new : Variables) : Type 0 where
   pub firsts : wanted_in source new.firsts ≡ fold further (wanted_in source old.firsts) (wanted_from source old.blanks (sites_of source atoms))
   pub blanks : new.blanks ≡ blanks_after old.blanks (raw_nodes atoms)

@@ -102,7 +102,7 @@ none_read = record { within = tt; given = IsPermutation-refl [] }
 abbrev parts : Option ℕ → Option ℕ → Option ℕ → Option ℕ → List RunOption
 parts seed height turns players = asked_if Seed seed ++ (asked_if Height height ++ (asked_if Turns turns ++ asked_if Players players))
 
--- one more behind others is one more before them
+-- one more after others is one more before them
 behind : (before asked : List RunOption) (option : RunOption) (later : List RunOption) → IsPermutation asked (option ∷ later) → IsPermutation (before ++ asked) (option ∷ before ++ later)
 behind before asked option later same =
     IsPermutation-trans (before ++ asked) (before ++ option ∷ later) (option ∷ before ++ later) (IsPermutation-append_right before asked (option ∷ later) same) (IsPermutation-middle before option later)
@@ -164,7 +164,7 @@ module _ {A B : Type 0} (f : A → B) (xs : List A) (i : ℕ) (x : A) (within : 
   pub up_to : map f (take (i + 1) xs) ≡ map f (take i xs) ++ f x ∷ []
   up_to = ap (map f) (take_more xs i x within) ∙ map-append f (take i xs) (get_or xs i x ∷ []) ∙ ap (λ y. map f (take i xs) ++ f y ∷ []) (sym here)
 
-  -- all are those before it, it, and those behind
+  -- all are those before it, it, and those after
   pub around : map f xs ≡ map f (take i xs) ++ f x ∷ map f (drop (i + 1) xs)
   around =
       ap (map f) (sym (take-append-drop (i + 1) xs)) ∙ map-append f (take (i + 1) xs) (drop (i + 1) xs) ∙ ap (λ ys. ys ++ map f (drop (i + 1) xs)) up_to
@@ -200,7 +200,7 @@ unexamined words plain seeded (Again None) file second ask = plain (Again None) 
 unexamined words plain seeded (Again (Some seed)) file second ask = seeded seed file second ask
 unexamined words plain seeded Weigh file second ask = plain Weigh file second ask.1
 
--- words that ask for none of these have no form
+-- words that ask for none of these are malformed
 pub no_form : (words : List (List ℕ)) → ((file : List ℕ) (options : Options) → ¬ (AskFor words (Play file options))) → ((task : Task) (file second : List ℕ) → words ≢ task_word task ∷ file ∷ second ∷ []) → ((seed : ℕ) (file second : List ℕ) → ¬ (AskFor words (Examine (Again (Some seed)) file second)))
     → ((file : List ℕ) → ¬ (AskFor words (Dead file))) → ((rooms : ℕ) (options : Options) → ¬ (AskFor words (World rooms options))) → HaveNoForm words
 no_form words unplayed plain seeded unreported unrun (Play file options) ask = unplayed file options ask

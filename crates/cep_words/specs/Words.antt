@@ -85,6 +85,6 @@ AskFor words (Examine task file second) =
 AskFor words (Dead file) = words ≡ codes "dead" ∷ file ∷ []
 AskFor words (World rooms options) = IsUpTo MOST_WORLD rooms × (options.players ≡ None) × ((others : List (List ℕ)) × (words ≡ codes "world" ∷ decimal rooms ∷ others) × Give others options)
 
--- the words have no form: they ask for nothing
+-- the words are malformed: they ask for nothing
 abbrev pub HaveNoForm : List (List ℕ) → Type 0
 HaveNoForm words = (request : Request) → AskFor words request → ⊥

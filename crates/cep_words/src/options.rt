@@ -20,7 +20,7 @@ pub struct Options {
 }
 
 impl Options {
-    /// The options that these words give, in any order and each at most once. `None` exactly where they
+    /// The options that these words give, in any order and each at most once. `None` if and only if they
     /// give none.
     pub fn of(words: &[String]) -> Option<Options>
         ensures { MatchOption result

@@ -55,7 +55,7 @@ pub enum Request<'a> {
 }
 
 impl Request<'_> {
-    /// What these words ask for. `None` exactly where they have no form.
+    /// What these words ask for. `None` if and only if they are malformed.
     pub fn of(words: &[String]) -> Option<Request<'_>>
         ensures { MatchOption result
             (HaveNoForm (map string_bytes words.now))

@@ -22,7 +22,7 @@ pub enum RunOption {
 
 impl RunOption {
     // What the word asks: `seed=N`, `height=N`, `turns=N` or `players=N`, N in decimal without
-    // leading zeros. `None` exactly where it asks nothing.
+    // leading zeros. `None` if and only if it asks nothing.
     pub(crate) fn of(word: &[u8]) -> Option<RunOption>
         ensures { MatchOption result
             ((option : RunOption) → IsInBounds option → word.now ≡ option_text option → ⊥)

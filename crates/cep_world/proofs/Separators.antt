@@ -1,4 +1,4 @@
--- A comma behind each atom but the last is a comma between each two.
+-- A comma after each atom but the last is a comma between each two.
 use Rattle.std.specs.Prelude.{codes}
 use Rattle.std.proofs.Common.{◌≡◌, ◌≤◌, ◌∙◌, ◌+◌, ◌-◌, ℕ, List, [], ◌∷◌, ◌++◌, map, sym, ap, arith, append_assoc, append-nil}
 use Rattle.std.specs.List.{flat_map, join_by}
@@ -18,7 +18,7 @@ three_added out a b c = ap (λ text. text ++ c) (append_assoc out a b) ∙ appen
 abbrev behind : List (List ℕ) → List ℕ
 behind atoms = flat_map (λ atom. codes ",\n" ++ atom) atoms
 
--- what stands behind a first atom, up to the last
+-- what stands after a first atom, up to the last
 behind_last : (atoms : List (List ℕ)) (last : List ℕ) → behind (atoms ++ last ∷ []) ≡ codes ",\n" ++ (with_commas atoms ++ last)
 behind_last [] last = append-nil (codes ",\n" ++ last)
 behind_last (atom ∷ atoms) last =

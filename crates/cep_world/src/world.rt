@@ -58,7 +58,7 @@ fn put_start(out: &mut Text, n: u32) -> Result<(), AllocError>
 }
 
 /// The text of the world of so many rooms, at least one and at most `MOST_WORLD`: a program in
-/// which walkers go along links, take goods and eat. Only want of memory is refused. Worlds are this
+/// which walkers go along links, take goods and eat. Only out of memory is refused. Worlds are this
 /// project's own.
 pub fn world_text(alloc: Global, n: u32) -> Result<Text, AllocError>
     requires some { 1 ≤ n }

@@ -3,7 +3,7 @@ use Rattle.std.proofs.lemmas.List.{take-take, take_all, length-take}
 use Rattle.std.proofs.lemmas.Result.{err_from_is_err_and}
 use Rattle.cep_fakes.proofs.memory_console.MemConsoleConsole.put.Goals as goal
 
--- a front of a front
+-- a prefix of a front
 take_of_take : (m n : ℕ) (xs : List ℕ) → take m (take n xs) ≡ take (min m n) xs
 take_of_take m n xs = grind (arith, take-take, take_all, length-take)
 
