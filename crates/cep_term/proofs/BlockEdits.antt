@@ -1,20 +1,22 @@
 -- Blocks of entries: what is done to the block of an atom is done to all entries.
-use Rattle.std.proofs.Common.{◌≡◌, ℕ, zero, suc, ◌+◌, ◌<◌, ◌≤◌, ◌==◌, true, false, List, [], ◌∷◌, ◌++◌, length, get_or, set, take, drop, Some, refl, sym, ap, ◌∙◌, arith, add-one, append_assoc, length-append, length-drop}
-use Rattle.std.specs.Prelude.{slice_get, IfSome}
+use Rattle.std.proofs.Common.{◌≡◌, ℕ, zero, suc, ◌+◌, ◌<◌, ◌-◌, ◌≤◌, true, false, List, [], ◌∷◌, ◌++◌, length, get_or, set, take, drop, Option, None, Some, refl, sym, ap, ◌∙◌, arith, append_assoc, length-append}
 use Rattle.std.specs.List.{AllByRecursion, insert, remove}
 use Rattle.std.specs.FinMap.Entries.{find, below_all}
 use Rattle.std.proofs.lemmas.Bool.{and_parts}
-use Rattle.std.proofs.lemmas.List.{append-nil, get_or-map, length-map, length-take, map-append, take-append-drop}
+use Rattle.std.specs.Prelude.{slice_get, IfSome}
+use Rattle.std.specs.Option.{SomeIff}
+use Rattle.std.proofs.lemmas.List.{append-nil, get_or-append-add, get_or-map, length-map, map-append, take-append-drop}
 use Rattle.std.proofs.lemmas.Option.{slice_get-get_or}
 use Rattle.std.proofs.lemmas.Grind.{flat_map-append}
 use Rattle.std.proofs.lemmas.List.Concat.{get_or-flat_map}
 use Rattle.cep_base.proofs.Lists.{take_next}
 use Rattle.cep_base.proofs.SortedEntries.{greater, lesser, below_one, find_below, keep_below, below_rest, below_further}
+use Rattle.cep_term.specs.declared.blocks.Blocks.{Blocks}
 use Rattle.cep_term.specs.declared.entries.Entry.{Entry}
 use Rattle.cep_term.specs.Tree.{AtomTree}
 use Rattle.cep_term.specs.Order.{atom_cmp}
 use Rattle.cep_term.specs.Multiset.{IsEntry}
-use Rattle.cep_term.specs.Entries.{Block, entry_of, entries_of, joined, IsRising, find_count, set_among, AreFilled, AreBefore, IsBlockFor, is_begun, IsBegunTo}
+use Rattle.cep_term.specs.Entries.{Block, entry_of, entries_of, later_entries, entries_in, IsRising, find_count, set_among, HaveEntries, AreBefore, IsLaterFor, IsBlockFor, begins_by, IsBegunTo}
 use Rattle.cep_term.proofs.OrderLaws.{atom_cmp_total, atom_cmp_ties}
 use Rattle.cep_term.proofs.Edits.{Counted}
 
@@ -28,7 +30,7 @@ rising_both [] ys rising = (refl, rising)
 rising_both (x ∷ xs) ys rising = grind (arith, rising_both xs ys, below_both x.0 xs ys)
 
 -- those before an entry that is not after the atom are before the atom
-before_begun : (xs es ys : List Counted) (a : AtomTree) → IsRising (xs ++ (es ++ ys)) → is_begun es a ≡ true → AreBefore xs a
+before_begun : (xs es ys : List Counted) (a : AtomTree) → IsRising (xs ++ (es ++ ys)) → begins_by es a ≡ true → AreBefore xs a
 before_begun xs [] ys a rising is = absurd cc
 before_begun [] (e ∷ es) ys a rising is = tt
 before_begun (x ∷ xs) (e ∷ es) ys a rising is =
@@ -37,36 +39,50 @@ before_begun (x ∷ xs) (e ∷ es) ys a rising is =
     (grind (arith, less, atom_cmp_total.trans x.0 e.0 a, atom_cmp_ties e.0 a), before_begun xs (e ∷ es) ys a parts.1 is)
 
 -- and from one on that is after the atom all are
-after_begun : (es ys : List Counted) (a : AtomTree) → 0 < length es → IsRising (es ++ ys) → is_begun es a ≡ false → below_all atom_cmp a (es ++ ys) ≡ true
+after_begun : (items : List Entry) (ys : List Counted) (a : AtomTree) → 0 < length items → IsRising (entries_of items ++ ys) → begins_by (entries_of items) a ≡ false → below_all atom_cmp a (entries_of items ++ ys) ≡ true
 after_begun [] ys a some rising is = absurd (omega arith)
-after_begun (e ∷ es) ys a some rising is = grind (arith, lesser atom_cmp atom_cmp_total a e.0, below_further atom_cmp atom_cmp_total a e.0 (es ++ ys), below_rest atom_cmp e (es ++ ys) rising)
+after_begun (e ∷ items) ys a some rising is =
+    grind (arith, lesser atom_cmp atom_cmp_total a (entry_of e).0, below_further atom_cmp atom_cmp_total a (entry_of e).0 (entries_of items ++ ys), below_rest atom_cmp (entry_of e) (entries_of items ++ ys) rising)
 
 -- so the block is found
-pub partitioned : (bs : List Block) (a : AtomTree) → AreFilled bs → IsRising (joined bs) → (i j : ℕ) (d : Block) → i ≤ j → j < length bs
-    → is_begun (entries_of (get_or bs j d).items) a ≡ true → is_begun (entries_of (get_or bs i d).items) a ≡ true
+pub partitioned : (bs : List Block) (a : AtomTree) → HaveEntries bs → IsRising (later_entries bs) → (i j : ℕ) (d : Block) → i ≤ j → j < length bs
+    → begins_by (entries_of (get_or bs j d).items) a ≡ true → begins_by (entries_of (get_or bs i d).items) a ≡ true
 partitioned [] a filled rising i j d le lt is = absurd (omega arith)
 partitioned (b ∷ bs) a filled rising zero zero d le lt is = is
 partitioned (b ∷ bs) a filled rising (suc i) zero d le lt is = absurd (omega arith)
-partitioned (b ∷ bs) a filled rising (suc i) (suc j) d le lt is = partitioned bs a filled.1 (rising_both (entries_of b.items) (joined bs) rising).1 i j d (omega arith) (omega arith) is
+partitioned (b ∷ bs) a filled rising (suc i) (suc j) d le lt is = partitioned bs a filled.1 (rising_both (entries_of b.items) (later_entries bs) rising).1 i j d (omega arith) (omega arith) is
 partitioned (b ∷ []) a filled rising zero (suc j) d le lt is = absurd (omega arith)
 partitioned (b ∷ c ∷ bs) a filled rising zero (suc j) d le lt is =
-    let rest = (rising_both (entries_of b.items) (joined (c ∷ bs)) rising).1 in
-    first_begun (entries_of b.items) filled.0 (before_begun (entries_of b.items) (entries_of c.items) (joined bs) a rising (partitioned (c ∷ bs) a filled.1 rest zero j d (omega arith) (omega arith) is))
+    let rest = (rising_both (entries_of b.items) (later_entries (c ∷ bs)) rising).1 in
+    first_begun b.items filled.0 (before_begun (entries_of b.items) (entries_of c.items) (later_entries bs) a rising (partitioned (c ∷ bs) a filled.1 rest zero j d (omega arith) (omega arith) is))
   where
-    first_begun : (es : List Counted) → 0 < length es → AreBefore es a → is_begun es a ≡ true
+    first_begun : (items : List Entry) → 0 < length items → AreBefore (entries_of items) a → begins_by (entries_of items) a ≡ true
     first_begun [] some before = absurd (omega arith)
-    first_begun (e ∷ es) some before = rw before.0 refl
+    first_begun (e ∷ items) some before = rw before.0 refl
 
-pub chosen : (b : Block) (bs : List Block) (n : ℕ) (a : AtomTree) → AreFilled bs → IsRising (joined (b ∷ bs)) → n ≤ length bs → IsBegunTo bs a n → IsBlockFor (b ∷ bs) a n
-chosen b [] zero a filled rising le begun = refl
-chosen b [] (suc n) a filled rising le begun = absurd (omega arith)
-chosen b (c ∷ bs) zero a filled rising le begun =
-    after_begun (entries_of c.items) (joined bs) a filled.0 (rising_both (entries_of b.items) (joined (c ∷ bs)) rising).1 (begun.1 0 c (omega arith) (omega arith))
-chosen b (c ∷ bs) (suc n) a filled rising le begun = (
-  before_begun (entries_of b.items) (entries_of c.items) (joined bs) a rising (begun.0 0 c (omega arith) (omega arith)),
-  chosen c bs n a filled.1 (rising_both (entries_of b.items) (joined (c ∷ bs)) rising).1 (omega arith)
+pub first_chosen : (bs : List Block) (a : AtomTree) → HaveEntries bs → IsRising (later_entries bs) → IsBegunTo bs a 0 → below_all atom_cmp a (later_entries bs) ≡ true
+first_chosen [] a filled rising begun = refl
+first_chosen (b ∷ bs) a filled rising begun = after_begun b.items (later_entries bs) a filled.0 rising (begun.1 0 b (omega arith) (omega arith))
+
+later_chosen : (first : List Counted) (bs : List Block) (n : ℕ) (a : AtomTree) → HaveEntries bs → IsRising (first ++ later_entries bs) → n < length bs → IsBegunTo bs a (suc n) → IsLaterFor first bs a n
+later_chosen first [] n a filled rising lt begun = absurd (omega arith)
+later_chosen first (b ∷ bs) zero a filled rising lt begun =
+    let rest = (rising_both first (later_entries (b ∷ bs)) rising).1 in (
+      before_begun first (entries_of b.items) (later_entries bs) a rising (begun.0 0 b (omega arith) (omega arith)),
+      first_chosen bs a filled.1 (rising_both (entries_of b.items) (later_entries bs) rest).1 (λ k d lo hi. absurd (omega arith), λ k d lo hi. begun.1 (suc k) d (omega arith) (omega arith)),
+    )
+later_chosen first (b ∷ bs) (suc n) a filled rising lt begun = (
+  before_begun first (entries_of b.items) (later_entries bs) a rising (begun.0 0 b (omega arith) (omega arith)),
+  later_chosen (entries_of b.items) bs n a filled.1 (rising_both first (later_entries (b ∷ bs)) rising).1 (omega arith)
       (λ k d lo hi. begun.0 (suc k) d (omega arith) (omega arith), λ k d lo hi. begun.1 (suc k) d (omega arith) (omega arith)),
 )
+
+pub chosen : (blocks : Blocks) (a : AtomTree) (n : ℕ) (found : Option ℕ) → HaveEntries blocks.later.items → IsRising (entries_in blocks) → n ≤ length blocks.later.items → IsBegunTo blocks.later.items a n → SomeIff found (1 ≤ n) (n - 1)
+    → IsBlockFor blocks a found
+chosen blocks a zero None filled rising le begun is = first_chosen blocks.later.items a filled (rising_both (entries_of blocks.first.items) (later_entries blocks.later.items) rising).1 begun
+chosen blocks a (suc n) (Some i) filled rising le begun is = let same : i ≡ n = omega (arith, is.1) in rw same (later_chosen (entries_of blocks.first.items) blocks.later.items n a filled rising (omega arith) begun)
+chosen blocks a (suc n) None filled rising le begun is = absurd (is (omega arith))
+chosen blocks a zero (Some i) filled rising le begun is = absurd (omega (arith, is.0))
 
 -- an atom is found and edited among those that are neither before nor after it
 find_before : (xs ys : List Counted) (a : AtomTree) → AreBefore xs a → find atom_cmp a (xs ++ ys) ≡ find atom_cmp a ys
@@ -87,50 +103,62 @@ set_after [] (y ∷ ys) a n after = grind (arith, keep_below atom_cmp a (y ∷ y
 set_after (x ∷ xs) ys a n after = grind (arith, set_after xs ys a n after)
 
 -- so its count in its block is that in all of them, and an edit there is one of all
-pub count_in_block : (bs : List Block) (a : AtomTree) (i : ℕ) (b : Block) → IsBlockFor bs a i → b ≡ get_or bs i b → find_count (joined bs) a ≡ find_count (entries_of b.items) a
-count_in_block [] a i b at is = absurd at
-count_in_block (c ∷ bs) a zero b at is = rw (find_after (entries_of c.items) (joined bs) a at, is) refl
-count_in_block (c ∷ bs) a (suc i) b at is = rw (find_before (entries_of c.items) (joined bs) a at.0) (count_in_block bs a i b at.1 is)
+pub count_in_first : (xs ys : List Counted) (a : AtomTree) → below_all atom_cmp a ys ≡ true → find_count (xs ++ ys) a ≡ find_count xs a
+count_in_first xs ys a after = rw (find_after xs ys a after) refl
 
-pub set_in_block : (bs : List Block) (a : AtomTree) (i n : ℕ) (b new : Block) → IsBlockFor bs a i → b ≡ get_or bs i b → entries_of new.items ≡ set_among (entries_of b.items) a n → joined (set bs i new) ≡ set_among (joined bs) a n
-set_in_block [] a i n b new at is e = absurd at
-set_in_block (c ∷ bs) a zero n b new at is e = rw (set_after (entries_of c.items) (joined bs) a n at, e, is) refl
-set_in_block (c ∷ bs) a (suc i) n b new at is e = rw (set_before (entries_of c.items) (joined bs) a n at.0, set_in_block bs a i n b new at.1 is e) refl
+pub count_in_later : (xs : List Counted) (bs : List Block) (a : AtomTree) (i : ℕ) (b : Block) → IsLaterFor xs bs a i → b ≡ get_or bs i b → find_count (xs ++ later_entries bs) a ≡ find_count (entries_of b.items) a
+count_in_later xs [] a i b at is = absurd at
+count_in_later xs (c ∷ bs) a zero b at is = rw (find_before xs (later_entries (c ∷ bs)) a at.0, find_after (entries_of c.items) (later_entries bs) a at.1, is) refl
+count_in_later xs (c ∷ bs) a (suc i) b at is = rw (find_before xs (later_entries (c ∷ bs)) a at.0) (count_in_later (entries_of c.items) bs a i b at.1 is)
 
-pub in_range : (bs : List Block) (a : AtomTree) (i : ℕ) → IsBlockFor bs a i → i < length bs
-in_range [] a i at = absurd at
-in_range (c ∷ bs) a zero at = omega arith
-in_range (c ∷ bs) a (suc i) at = let rest = in_range bs a i at.1 in omega arith
+pub set_in_first : (xs new ys : List Counted) (a : AtomTree) (n : ℕ) → below_all atom_cmp a ys ≡ true → new ≡ set_among xs a n → new ++ ys ≡ set_among (xs ++ ys) a n
+set_in_first xs new ys a n after is = rw (is, set_after xs ys a n after) refl
+
+pub set_in_later : (xs : List Counted) (bs : List Block) (a : AtomTree) (i n : ℕ) (b new : Block) → IsLaterFor xs bs a i → b ≡ get_or bs i b → entries_of new.items ≡ set_among (entries_of b.items) a n
+    → xs ++ later_entries (set bs i new) ≡ set_among (xs ++ later_entries bs) a n
+set_in_later xs [] a i n b new at is e = absurd at
+set_in_later xs (c ∷ bs) a zero n b new at is e = rw (set_before xs (later_entries (c ∷ bs)) a n at.0, set_after (entries_of c.items) (later_entries bs) a n at.1, e, is) refl
+set_in_later xs (c ∷ bs) a (suc i) n b new at is e = rw (set_before xs (later_entries (c ∷ bs)) a n at.0, set_in_later (entries_of c.items) bs a i n b new at.1 is e) refl
+
+pub in_range : (xs : List Counted) (bs : List Block) (a : AtomTree) (i : ℕ) → IsLaterFor xs bs a i → i < length bs
+in_range xs [] a i at = absurd at
+in_range xs (c ∷ bs) a zero at = omega arith
+in_range xs (c ∷ bs) a (suc i) at = let rest = in_range (entries_of c.items) bs a i at.1 in omega arith
 
 -- what holds of all entries holds of those of a block
-pub rising_at : (bs : List Block) (i : ℕ) (b : Block) → IsRising (joined bs) → i < length bs → b ≡ get_or bs i b → IsRising (entries_of b.items)
-rising_at [] i b rising lt is = absurd (omega arith)
-rising_at (c ∷ bs) zero b rising lt is = rw is (rising_both (entries_of c.items) (joined bs) rising).0
-rising_at (c ∷ bs) (suc i) b rising lt is = rising_at bs i b (rising_both (entries_of c.items) (joined bs) rising).1 (omega arith) is
+pub rising_first : (xs ys : List Counted) → IsRising (xs ++ ys) → IsRising xs
+rising_first xs ys rising = (rising_both xs ys rising).0
+
+pub rising_at : (xs : List Counted) (bs : List Block) (i : ℕ) (b : Block) → IsRising (xs ++ later_entries bs) → i < length bs → b ≡ get_or bs i b → IsRising (entries_of b.items)
+rising_at xs [] i b rising lt is = absurd (omega arith)
+rising_at xs (c ∷ bs) zero b rising lt is = rw is (rising_first (entries_of c.items) (later_entries bs) (rising_both xs (later_entries (c ∷ bs)) rising).1)
+rising_at xs (c ∷ bs) (suc i) b rising lt is = rising_at (entries_of c.items) bs i b (rising_both xs (later_entries (c ∷ bs)) rising).1 (omega arith) is
 
 each_both : (xs ys : List Counted) → AllByRecursion IsEntry (xs ++ ys) → AllByRecursion IsEntry xs × AllByRecursion IsEntry ys
 each_both [] ys each = (tt, each)
 each_both (x ∷ xs) ys each = let rest = each_both xs ys each.1 in ((each.0, rest.0), rest.1)
 
-pub each_at : (bs : List Block) (i : ℕ) (b : Block) → AllByRecursion IsEntry (joined bs) → i < length bs → b ≡ get_or bs i b → AllByRecursion IsEntry (entries_of b.items)
-each_at [] i b each lt is = absurd (omega arith)
-each_at (c ∷ bs) zero b each lt is = rw is (each_both (entries_of c.items) (joined bs) each).0
-each_at (c ∷ bs) (suc i) b each lt is = each_at bs i b (each_both (entries_of c.items) (joined bs) each).1 (omega arith) is
+pub each_first : (xs ys : List Counted) → AllByRecursion IsEntry (xs ++ ys) → AllByRecursion IsEntry xs
+each_first xs ys each = (each_both xs ys each).0
+
+pub each_at : (xs : List Counted) (bs : List Block) (i : ℕ) (b : Block) → AllByRecursion IsEntry (xs ++ later_entries bs) → i < length bs → b ≡ get_or bs i b → AllByRecursion IsEntry (entries_of b.items)
+each_at xs [] i b each lt is = absurd (omega arith)
+each_at xs (c ∷ bs) zero b each lt is = rw is (each_first (entries_of c.items) (later_entries bs) (each_both xs (later_entries (c ∷ bs)) each).1)
+each_at xs (c ∷ bs) (suc i) b each lt is = each_at (entries_of c.items) bs i b (each_both xs (later_entries (c ∷ bs)) each).1 (omega arith) is
 
 -- a block with the same entries takes the place of another
-pub joined_same : (bs : List Block) (i : ℕ) (b new : Block) → b ≡ get_or bs i b → entries_of new.items ≡ entries_of b.items → joined (set bs i new) ≡ joined bs
-joined_same [] i b new is same = refl
-joined_same (c ∷ bs) zero b new is same = rw (same, is) refl
-joined_same (c ∷ bs) (suc i) b new is same = ap (λ es. entries_of c.items ++ es) (joined_same bs i b new is same)
+pub entries_same : (bs : List Block) (i : ℕ) (b new : Block) → b ≡ get_or bs i b → entries_of new.items ≡ entries_of b.items → later_entries (set bs i new) ≡ later_entries bs
+entries_same [] i b new is same = refl
+entries_same (c ∷ bs) zero b new is same = rw (same, is) refl
+entries_same (c ∷ bs) (suc i) b new is same = ap (λ es. entries_of c.items ++ es) (entries_same bs i b new is same)
 
 -- one that is not shorter, and one with an entry
-pub filled_longer : (bs : List Block) (i : ℕ) (b new : Block) → AreFilled bs → b ≡ get_or bs i b → length b.items ≤ length new.items → AreFilled (set bs i new)
+pub filled_longer : (bs : List Block) (i : ℕ) (b new : Block) → HaveEntries bs → b ≡ get_or bs i b → length b.items ≤ length new.items → HaveEntries (set bs i new)
 filled_longer [] i b new filled is long = tt
-filled_longer (c ∷ bs) zero b new filled is long =
-    let some = filled.0 in (omega (arith, some, length-map c.items entry_of, length-map new.items entry_of, ap (λ (d : Block). length d.items) is), filled.1)
+filled_longer (c ∷ bs) zero b new filled is long = let some = filled.0 in (omega (arith, ap (λ (d : Block). length d.items) is), filled.1)
 filled_longer (c ∷ bs) (suc i) b new filled is long = (filled.0, filled_longer bs i b new filled.1 is long)
 
-pub filled_set : (bs : List Block) (i : ℕ) (new : Block) → AreFilled bs → 0 < length (entries_of new.items) → AreFilled (set bs i new)
+pub filled_set : (bs : List Block) (i : ℕ) (new : Block) → HaveEntries bs → 0 < length new.items → HaveEntries (set bs i new)
 filled_set [] i new filled some = tt
 filled_set (b ∷ bs) zero new filled some = (some, filled.1)
 filled_set (b ∷ bs) (suc i) new filled some = (filled.0, filled_set bs i new filled.1 some)
@@ -140,12 +168,12 @@ no_items : (items : List Entry) → length items ≡ 0 → entries_of items ≡ 
 no_items [] none = refl
 no_items (e ∷ items) none = absurd (omega arith)
 
-pub joined_without : (bs : List Block) (i : ℕ) (new read : Block) → i < length bs → read ≡ get_or (set bs i new) i read → length read.items ≡ 0 → joined (remove (set bs i new) i) ≡ joined (set bs i new)
-joined_without [] i new read lt is none = absurd (omega arith)
-joined_without (b ∷ bs) zero new read lt is none = rw (no_items new.items (ap (λ (d : Block). length d.items) (sym is) ∙ none)) refl
-joined_without (b ∷ bs) (suc i) new read lt is none = ap (λ es. entries_of b.items ++ es) (joined_without bs i new read (omega arith) is none)
+pub entries_without : (bs : List Block) (i : ℕ) (new read : Block) → i < length bs → read ≡ get_or (set bs i new) i read → length read.items ≡ 0 → later_entries (remove (set bs i new) i) ≡ later_entries (set bs i new)
+entries_without [] i new read lt is none = absurd (omega arith)
+entries_without (b ∷ bs) zero new read lt is none = rw (no_items new.items (ap (λ (d : Block). length d.items) (sym is) ∙ none)) refl
+entries_without (b ∷ bs) (suc i) new read lt is none = ap (λ es. entries_of b.items ++ es) (entries_without bs i new read (omega arith) is none)
 
-pub filled_without : (bs : List Block) (i : ℕ) (new : Block) → i < length bs → AreFilled bs → AreFilled (remove (set bs i new) i)
+pub filled_without : (bs : List Block) (i : ℕ) (new : Block) → i < length bs → HaveEntries bs → HaveEntries (remove (set bs i new) i)
 filled_without [] i new lt filled = absurd (omega arith)
 filled_without (b ∷ bs) zero new lt filled = filled.1
 filled_without (b ∷ bs) (suc i) new lt filled = (filled.0, filled_without bs i new (omega arith) filled.1)
@@ -154,36 +182,38 @@ filled_without (b ∷ bs) (suc i) new lt filled = (filled.0, filled_without bs i
 pub long_at : (bs : List Block) (i : ℕ) (b : Block) → i < length bs → b ≡ get_or bs i b → IfSome (slice_get bs i) (λ block. 1 < length block.items) → 1 < length b.items
 long_at bs i b lt is long = rw (slice_get-get_or bs i b lt, ← is) at long
 
-joined_divided : (bs : List Block) (i : ℕ) (b front later : Block) → i < length bs → b ≡ get_or bs i b → entries_of front.items ++ entries_of later.items ≡ entries_of b.items → joined (insert (set bs i front) (suc i) later) ≡ joined bs
-joined_divided [] i b front later lt is parts = absurd (omega arith)
-joined_divided (c ∷ bs) zero b front later lt is parts = rw (← (append_assoc (entries_of front.items) (entries_of later.items) (joined bs)), parts, is) refl
-joined_divided (c ∷ bs) (suc i) b front later lt is parts = ap (λ es. entries_of c.items ++ es) (joined_divided bs i b front later (omega arith) is parts)
+pub entries_divided : (bs : List Block) (i : ℕ) (b front rest : Block) → i < length bs → b ≡ get_or bs i b → entries_of b.items ≡ entries_of front.items ++ entries_of rest.items → later_entries (insert (set bs i front) (suc i) rest) ≡ later_entries bs
+entries_divided [] i b front rest lt is parts = absurd (omega arith)
+entries_divided (c ∷ bs) zero b front rest lt is parts = rw (← (append_assoc (entries_of front.items) (entries_of rest.items) (later_entries bs)), ← parts, is) refl
+entries_divided (c ∷ bs) (suc i) b front rest lt is parts = ap (λ es. entries_of c.items ++ es) (entries_divided bs i b front rest (omega arith) is parts)
 
-filled_divided : (bs : List Block) (i : ℕ) (front later : Block) → i < length bs → AreFilled bs → 0 < length (entries_of front.items) → 0 < length (entries_of later.items) → AreFilled (insert (set bs i front) (suc i) later)
-filled_divided [] i front later lt filled some more = absurd (omega arith)
-filled_divided (c ∷ bs) zero front later lt filled some more = (some, (more, filled.1))
-filled_divided (c ∷ bs) (suc i) front later lt filled some more = (filled.0, filled_divided bs i front later (omega arith) filled.1 some more)
+pub filled_divided : (bs : List Block) (i : ℕ) (front rest : Block) → i < length bs → HaveEntries bs → 0 < length front.items → 0 < length rest.items → HaveEntries (insert (set bs i front) (suc i) rest)
+filled_divided [] i front rest lt filled some more = absurd (omega arith)
+filled_divided (c ∷ bs) zero front rest lt filled some more = (some, (more, filled.1))
+filled_divided (c ∷ bs) (suc i) front rest lt filled some more = (filled.0, filled_divided bs i front rest (omega arith) filled.1 some more)
 
-pub divided : (bs new : List Block) (i n : ℕ) (b front later : Block) → i < length bs → b ≡ get_or bs i b → front.items ≡ take n b.items → later.items ≡ drop n b.items → 0 < n → n < length b.items
-    → AreFilled bs → new ≡ insert (set bs i front) (i + 1) later → record { same : joined new ≡ joined bs; filled : AreFilled new }
-divided bs new i n b front later lt is left right some few filled e =
-    let parts : entries_of front.items ++ entries_of later.items ≡ entries_of b.items = rw (left, right, ← (map-append entry_of (take n b.items) (drop n b.items)), take-append-drop n b.items) refl in
-    let first : 0 < length (entries_of front.items) = rw (left, length-map (take n b.items) entry_of, length-take n b.items) (omega arith) in
-    let rest : 0 < length (entries_of later.items) = rw (right, length-map (drop n b.items) entry_of, length-drop n b.items) (omega arith) in
-    rw (e, add-one i) (record { same = joined_divided bs i b front later lt is parts; filled = filled_divided bs i front later lt filled first rest })
-
-pub none_joined : (bs : List Block) → AreFilled bs → (length bs == 0) ≡ (length (joined bs) == 0)
-none_joined [] filled = refl
-none_joined (b ∷ bs) filled = let some = filled.0 in grind (arith, length-append (entries_of b.items) (joined bs))
+-- at a place in it
+pub parts : (items front rest : List Entry) (n : ℕ) → front ≡ take n items → rest ≡ drop n items → entries_of items ≡ entries_of front ++ entries_of rest
+parts items front rest n left right = rw (left, right, ← (map-append entry_of (take n items) (drop n items)), take-append-drop n items) refl
 
 -- the entries before a block, and the entry at a place in it
-pub length_to : (bs : List Block) (at : ℕ) (b : Block) → at < length bs → b ≡ get_or bs at b → length (joined (take (at + 1) bs)) ≡ length (joined (take at bs)) + length b.items
-length_to bs at b lt is = rw (take_next bs at b (rw (slice_get-get_or bs at b lt, ← is) refl), flat_map-append (λ (c : Block). entries_of c.items) (take at bs) (b ∷ []), append-nil (entries_of b.items), length-append (joined (take at bs)) (entries_of b.items), length-map b.items entry_of) refl
+pub length_to : (bs : List Block) (at : ℕ) (b : Block) → at < length bs → b ≡ get_or bs at b → length (later_entries (take (at + 1) bs)) ≡ length (later_entries (take at bs)) + length b.items
+length_to bs at b lt is =
+    rw (take_next bs at b (rw (slice_get-get_or bs at b lt, ← is) refl), flat_map-append (λ (c : Block). entries_of c.items) (take at bs) (b ∷ []), append-nil (entries_of b.items), length-append (later_entries (take at bs)) (entries_of b.items), length-map b.items entry_of) refl
 
-pub entry_here : (bs : List Block) (at left i : ℕ) (b : Block) (x : Entry) → i < length (joined bs) → i ≡ length (joined (take at bs)) + left → at < length bs → b ≡ get_or bs at b → left < length b.items → x ≡ get_or b.items left x → slice_get (joined bs) i ≡ Some (entry_of x)
-entry_here bs at left i b x there place lt is within here =
+pub entry_here : (xs : List Counted) (bs : List Block) (at left i : ℕ) (b : Block) (x : Entry) → i < length (xs ++ later_entries bs) → i ≡ length xs + (length (later_entries (take at bs)) + left) → at < length bs → b ≡ get_or bs at b → left < length b.items
+    → x ≡ get_or b.items left x → slice_get (xs ++ later_entries bs) i ≡ Some (entry_of x)
+entry_here xs bs at left i b x there place lt is within here =
     let long : left < length (entries_of (get_or bs at b).items) = rw (← is, length-map b.items entry_of) within in
-    rw (slice_get-get_or (joined bs) i (entry_of x) there, place, get_or-flat_map (λ (c : Block). entries_of c.items) bs at left b (entry_of x) lt long, ← is, get_or-map entry_of b.items left x (entry_of x) within, ← here) refl
+    rw (
+      slice_get-get_or (xs ++ later_entries bs) i (entry_of x) there,
+      place,
+      get_or-append-add xs (later_entries bs) (length (later_entries (take at bs)) + left) (entry_of x),
+      get_or-flat_map (λ (c : Block). entries_of c.items) bs at left b (entry_of x) lt long,
+      ← is,
+      get_or-map entry_of b.items left x (entry_of x) within,
+      ← here,
+    ) refl
 
 -- for the functions that go to the block of an atom
-pub ruleset in_block = (count_in_block, set_in_block, in_range, rising_at, each_at, joined_same, filled_longer, filled_set, filled_without)
+pub ruleset in_block = (count_in_first, count_in_later, set_in_first, set_in_later, in_range, rising_first, rising_at, each_first, each_at, entries_same, filled_longer, filled_set, filled_without)

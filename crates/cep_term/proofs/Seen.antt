@@ -51,14 +51,6 @@ pub ground_there : (es : List Counted) (a : AtomTree) → AllByRecursion IsEntry
 ground_there [] a all there = absurd (there refl)
 ground_there (e ∷ es) a all there = grind (arith, ground_there es a all.1, atom_cmp_ties a e.0)
 
--- there is no entry exactly in the empty multiset
-pub empty_seen_back : (es : List Counted) (bag : Multiset) (n : ℕ) (result : Bool) → IsRising es → finite.from_sorted es ≡ bag → n ≡ length es → result ≡ (n == 0) → (result ≡ true) ↔ (bag ≡ finite.empty)
-empty_seen_back es bag n result rising seen is e =
-    let long = len_seen es bag rising seen in (
-      λ yes. let none : n ≡ 0 = eqb-true n 0 (sym e ∙ yes) in finite.empty_of_len bag (omega arith),
-      λ empty. e ∙ eq-eqb n 0 (is ∙ long ∙ ap (λ z. finite.len z) empty ∙ finite.len-empty atom_cmp ℕ),
-    )
-
 -- the counts of a list are at most others where each entry's is
 counts_from_entries : (others : List Counted) (count : AtomTree → ℕ) (a : AtomTree) → AllByRecursion (λ e. e.1 ≤ count e.0) others → find_count others a ≤ count a
 counts_from_entries [] count a all = omega arith
@@ -87,6 +79,13 @@ few_entries es copies kept = omega (arith, at_most es kept.each, kept.counted)
     at_most : (es : List Counted) → AllByRecursion IsEntry es → length es ≤ total es
     at_most [] each = omega arith
     at_most (e ∷ es) each = omega (arith, at_most es each.1, each.0.0, total-cons e es)
+
+-- and none exactly in the empty multiset
+pub none_seen : (es : List Counted) (bag : Multiset) (copies : ℕ) → AreKept es copies → finite.from_sorted es ≡ bag → ((copies == 0) ≡ true) ↔ (bag ≡ finite.empty)
+none_seen es bag copies kept seen = (
+  λ yes. let none : copies ≡ 0 = eqb-true copies 0 yes in finite.empty_of_len bag (omega (arith, few_entries es copies kept, len_seen es bag kept.rising seen)),
+  λ empty. eq-eqb copies 0 (sym kept.counted ∙ copies_seen es bag kept.rising seen ∙ ap (λ z. copies_in z) empty ∙ ap total (ap (λ z. finite.entries z) (sym empty_seen) ∙ entries_rising no_entries refl)),
+)
 
 pub some_copy : (es : List Counted) (a : AtomTree) (copies : ℕ) → AreKept es copies → (false ≡ true) ↔ (find_count es a ≡ 0) → 1 ≤ copies
 some_copy es a copies kept is = omega (arith, some_copy_there (find_count es a) is, count_le_total es a, kept.counted)

@@ -1,5 +1,5 @@
 -- Lists of entries, each an atom with its count, in blocks, on which a bag stands: what they stand for, their edits, and the places of atoms among them.
-use Rattle.std.specs.Prelude.{◌≡◌, ℕ, zero, suc, ◌+◌, ◌-◌, ◌<◌, ◌==◌, if◌then◌else◌, Bool, List, [], ◌∷◌, length, map, sum_by, unwrap_or, true, false, not}
+use Rattle.std.specs.Prelude.{◌≡◌, ℕ, zero, suc, ◌+◌, ◌-◌, ◌<◌, ◌==◌, if◌then◌else◌, Bool, List, [], ◌∷◌, ◌++◌, length, map, Option, Some, None, sum_by, unwrap_or, true, false, not}
 use Rattle.std.specs.List.{AllByRecursion, flat_map}
 use Rattle.std.specs.List.Sorted.{IsPartitionPoint}
 use Rattle.std.specs.Ordering.{is_le, eq_by_cmp}
@@ -9,6 +9,7 @@ use Rattle.std.specs.declared.vec.Vec.{Vec}
 use Rattle.std.specs.FinMap as finite
 use Rattle.std.specs.FinMap.Entries.{put, where_key, below_all}
 use Rattle.cep_base.specs.Sorted.{IsPlaceOf, IsGapOf}
+use Rattle.cep_term.specs.declared.blocks.Blocks.{Blocks}
 use Rattle.cep_term.specs.declared.entries.Entry.{Entry}
 use Rattle.cep_term.specs.Tree.{AtomTree, atom_of}
 use Rattle.cep_term.specs.Order.{atom_cmp}
@@ -26,13 +27,17 @@ entries_of entries = map entry_of entries
 abbrev pub Block : Type 0
 Block = Vec Entry Global
 
--- the entries of blocks, one block after another
-abbrev pub joined : List Block → List (AtomTree × ℕ)
-joined blocks = flat_map (λ block. entries_of block.items) blocks
+-- the entries of later blocks, one block after another
+abbrev pub later_entries : List Block → List (AtomTree × ℕ)
+later_entries blocks = flat_map (λ block. entries_of block.items) blocks
+
+-- all entries
+abbrev pub entries_in : Blocks → List (AtomTree × ℕ)
+entries_in blocks = entries_of blocks.first.items ++ later_entries blocks.later.items
 
 -- the multiset of blocks of entries with increasing atoms
-abbrev pub bag_of : List Block → Multiset
-bag_of blocks = finite.from_sorted (joined blocks)
+abbrev pub bag_of : Blocks → Multiset
+bag_of blocks = finite.from_sorted (entries_in blocks)
 
 -- The entries' atoms are strictly increasing.
 abbrev pub IsRising : List (AtomTree × ℕ) → Type 0
@@ -60,32 +65,37 @@ pub record AreKept (entries : List (AtomTree × ℕ)) (copies : ℕ) : Type 0 wh
   pub counted : sum_by (λ e. e.1) entries ≡ copies
 
 -- Each block has an entry.
-abbrev pub AreFilled : List Block → Type 0
-AreFilled blocks = AllByRecursion (λ block. 0 < length (entries_of block.items)) blocks
+abbrev pub HaveEntries : List Block → Type 0
+HaveEntries blocks = AllByRecursion (λ block. 0 < length block.items) blocks
 
--- What holds of the blocks of a bag: none is empty, and all of their entries are kept.
-pub record AreBlocksOf (blocks : List Block) (copies : ℕ) : Type 0 where
-  pub filled : AreFilled blocks
-  pub kept : AreKept (joined blocks) copies
+-- What holds of the blocks of a bag: none but the first is empty, and all of their entries are kept.
+pub record AreBlocksOf (blocks : Blocks) (copies : ℕ) : Type 0 where
+  pub filled : HaveEntries blocks.later.items
+  pub kept : AreKept (entries_in blocks) copies
 
 -- All atoms of these entries are less than this one.
 abbrev pub AreBefore : List (AtomTree × ℕ) → AtomTree → Type 0
 AreBefore entries a = AllByRecursion (λ e. atom_cmp e.0 a ≡ Less) entries
 
--- The atom's entry is in the block at this place or would go there: the atoms of those before are less, and of those after greater.
-abbrev pub IsBlockFor : List Block → AtomTree → ℕ → Type 0
-IsBlockFor [] a i = ⊥
-IsBlockFor (block ∷ blocks) a zero = below_all atom_cmp a (joined blocks) ≡ true
-IsBlockFor (block ∷ blocks) a (suc i) = AreBefore (entries_of block.items) a × IsBlockFor blocks a i
+-- The atom's entry is in the later block at this place or would go there: the atoms of those before, the first of which is this, are less, and of those after greater.
+abbrev pub IsLaterFor : List (AtomTree × ℕ) → List Block → AtomTree → ℕ → Type 0
+IsLaterFor first [] a i = ⊥
+IsLaterFor first (block ∷ blocks) a zero = AreBefore first a × (below_all atom_cmp a (later_entries blocks) ≡ true)
+IsLaterFor first (block ∷ blocks) a (suc i) = AreBefore first a × IsLaterFor (entries_of block.items) blocks a i
+
+-- The same of all blocks, where no place is that of the first.
+abbrev pub IsBlockFor : Blocks → AtomTree → Option ℕ → Type 0
+IsBlockFor blocks a None = below_all atom_cmp a (later_entries blocks.later.items) ≡ true
+IsBlockFor blocks a (Some i) = IsLaterFor (entries_of blocks.first.items) blocks.later.items a i
 
 -- whether the first of these entries is of the atom or of a lesser one
-abbrev pub is_begun : List (AtomTree × ℕ) → AtomTree → Bool
-is_begun [] a = false
-is_begun (e ∷ entries) a = is_le (atom_cmp e.0 a)
+abbrev pub begins_by : List (AtomTree × ℕ) → AtomTree → Bool
+begins_by [] a = false
+begins_by (e ∷ entries) a = is_le (atom_cmp e.0 a)
 
 -- The first so many blocks begin so, and no others.
 abbrev pub IsBegunTo : List Block → AtomTree → ℕ → Type 0
-IsBegunTo blocks a = IsPartitionPoint (λ block. is_begun (entries_of block.items) a ≡ true) (λ block. is_begun (entries_of block.items) a ≡ false) blocks
+IsBegunTo blocks a = IsPartitionPoint (λ block. begins_by (entries_of block.items) a ≡ true) (λ block. begins_by (entries_of block.items) a ≡ false) blocks
 
 -- The entry at this place is the atom's; and the atom has no entry and would go here.
 abbrev pub IsAt : List (AtomTree × ℕ) → AtomTree → ℕ → Type 0

@@ -5,8 +5,8 @@ ghost use Rattle.cep_term.specs.Tree.{atom_of, IsGroundAtom};
 ghost use Rattle.cep_term.specs.Multiset.{count_of, with_count, with_one, without_one, gathered, sum_of, difference_of, copies_in, IsContained, IsBag, AddsFront};
 
 use crate::atoms::AtomList;
-use crate::blocks;
-use crate::entries::{Entry, Missing};
+use crate::blocks::Blocks;
+use crate::entries::Missing;
 use crate::term::Atom;
 use std::alloc::{AllocError, Global};
 use std::marker::Model;
@@ -18,7 +18,7 @@ use std::marker::Model;
 #[derive(Drop)]
 pub struct Bag {
     alloc: Global,
-    blocks: Vec<Vec<Entry>>,
+    blocks: Blocks,
     copies: u64,
 }
 
@@ -33,9 +33,9 @@ impl Model for Bag {
 
     ghost coded = { finite.code atom_code coded_ℕ };
 
-    ghost view = { λ bag. bag_of bag.blocks.items };
+    ghost view = { λ bag. bag_of bag.blocks };
 
-    ghost invariant = { λ bag. AreBlocksOf bag.blocks.items bag.copies };
+    ghost invariant = { λ bag. AreBlocksOf bag.blocks bag.copies };
 }
 
 impl Bag {
@@ -45,7 +45,7 @@ impl Bag {
     {
         Bag {
             alloc,
-            blocks: Vec::new(alloc),
+            blocks: Blocks::new(alloc),
             copies: 0,
         }
     }
@@ -65,7 +65,7 @@ impl Bag {
     pub fn count(&self, a: &Atom) -> u32
         ensures { result ≡ count_of self.now (atom_of a.now) }
     {
-        blocks::count(&self.blocks, a)
+        self.blocks.count(a)
     }
 
     /// Adds one copy of a ground atom. After out of memory the bag is as before.
@@ -76,7 +76,7 @@ impl Bag {
         ensures ok { OnOk result (self.new ≡ with_one self.old (atom_of a.now)) }
         ensures err { OnErr result (self.new ≡ self.old) }
     {
-        blocks::add(self.alloc, &mut self.blocks, a)?;
+        self.blocks.add(self.alloc, a)?;
         self.copies += 1;
         Ok(())
     }
@@ -103,7 +103,7 @@ impl Bag {
         ensures ok { OnOk result (self.new ≡ without_one self.old (atom_of a.now)) }
         ensures err { OnErr result (self.new ≡ self.old) }
     {
-        match blocks::take(&mut self.blocks, a) {
+        match self.blocks.take(a) {
             Ok(()) => {
                 self.copies -= 1;
                 Ok(())
@@ -169,7 +169,7 @@ impl Bag {
     {
         Ok(Bag {
             alloc,
-            blocks: blocks::copy(alloc, &self.blocks)?,
+            blocks: self.blocks.copy(alloc)?,
             copies: self.copies,
         })
     }
@@ -181,14 +181,14 @@ impl Bag {
     {
         // there are no more entries than copies, so their number fits
         let _ = self.copies();
-        blocks::len(&self.blocks)
+        self.blocks.len()
     }
 
     /// Whether there is no atom.
     pub fn is_empty(&self) -> bool
         ensures { IsTrue result ↔ (self.now ≡ finite.empty) }
     {
-        self.blocks.is_empty()
+        self.copies == 0
     }
 
     /// The i-th atom in the order of atoms, counted from 0, with the number of its copies.
@@ -196,7 +196,7 @@ impl Bag {
         requires { i < finite.len self.now }
         ensures { slice_get (finite.entries self.now) i ≡ Some (atom_of result.0.now, result.1) }
     {
-        let entry = blocks::entry(&self.blocks, i);
+        let entry = self.blocks.entry(i);
         (&entry.atom, entry.count)
     }
 }

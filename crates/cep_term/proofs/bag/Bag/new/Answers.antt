@@ -1,7 +1,8 @@
-use Rattle.std.proofs.Common.{◌∙◌, ap}
-use Rattle.cep_term.specs.Entries.{bag_of}
+use Rattle.std.proofs.Common.{List, ◌∙◌, ap}
+use Rattle.std.specs.FinMap as finite
+use Rattle.cep_term.proofs.Edits.{Counted}
 use Rattle.cep_term.proofs.Seen.{empty_seen}
 use Rattle.cep_term.proofs.bag.Bag.new.Goals as goal
 
 pub returns : goal.returns
-returns c = ap bag_of c.new.ensures.items ∙ empty_seen
+returns c = ap (λ (entries : List Counted). finite.from_sorted entries) c.new.ensures.none ∙ empty_seen
