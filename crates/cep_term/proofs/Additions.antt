@@ -24,10 +24,7 @@ sum_alone bag kept = same_counts _ bag (bag_sum finite.empty bag bag_empty kept)
 
 -- a list of one atom is one copy more
 sum_one : (bag : Multiset) (a : AtomTree) → IsGroundAtom a → IsBag bag → sum_of bag (gathered (a ∷ [])) ≡ with_one bag a
-sum_one bag a known kept =
-    sum_commutes bag (with_one finite.empty a) kept (bag_set_count finite.empty a (count_of finite.empty a + 1) known bag_empty)
-    ∙ sum_with_one finite.empty bag a known bag_empty kept
-    ∙ ap (λ z. with_one z a) (sum_alone bag kept)
+sum_one bag a known kept = grind (arith, sum_commutes, bag_set_count, bag_empty, sum_with_one, sum_alone)
 
 -- one atom more is added
 pub sum_more : (bag : Multiset) (atoms : List AtomTree) (n : ℕ) (a : AtomTree) → IsBag bag → AllByRecursion IsGroundAtom atoms → slice_get atoms n ≡ Some a → with_one (sum_of bag (gathered (take n atoms))) a ≡ sum_of bag (gathered (take (n + 1) atoms))
@@ -79,31 +76,16 @@ set_same bag a known kept = same_counts _ bag (bag_set_count bag a (count_of bag
 
 -- a count that is set twice
 set_twice : (bag : Multiset) (a : AtomTree) (m n : ℕ) → IsGroundAtom a → IsBag bag → with_count (with_count bag a m) a n ≡ with_count bag a n
-set_twice bag a m n known kept = same_counts _ _ (bag_set_count (with_count bag a m) a n known (bag_set_count bag a m known kept)) (bag_set_count bag a n known kept)
-    (λ b. count_set (with_count bag a m) a b n ∙ by (eq_by_cmp atom_cmp b a) (count_of (with_count bag a m) b) (count_of bag b) (count_set bag a b m) ∙ sym (count_set bag a b n))
-  where
-    by : (t : Bool) (x y : ℕ) → x ≡ cond t m y → cond t n x ≡ cond t n y
-    by true x y e = refl
-    by false x y e = e
+set_twice bag a m n known kept = grind (arith, same_counts, bag_set_count, count_set)
 
 -- what one call of take leaves
 taken_once : {T E : Type 0} (r : Result T E) (old new : Multiset) (a : AtomTree) → IsGroundAtom a → IsBag old → OnOk r (new ≡ without_one old a) → OnErr r (new ≡ old) → (IsErr r ↔ (count_of old a ≡ 0)) → new ≡ without_one old a
 taken_once (Ok t) old new a known kept ok err missing = ok
-taken_once (Err e) old new a known kept ok err missing =
-    let none : count_of old a ≡ 0 = missing.0 refl in
-    let same : count_of old a ≡ count_of old a - 1 = omega arith in
-    err ∙ sym (set_same old a known kept) ∙ ap (λ n. with_count old a n) same
+taken_once (Err e) old new a known kept ok err missing = grind (arith, set_same, missing.0)
 
 -- one copy more is taken
 pub taken_more : {T E : Type 0} (r : Result T E) (bag old new : Multiset) (a : AtomTree) (k : ℕ) → IsGroundAtom a → IsBag bag → old ≡ with_count bag a (count_of bag a - k) → OnOk r (new ≡ without_one old a) → OnErr r (new ≡ old) → (IsErr r ↔ (count_of old a ≡ 0)) → new ≡ with_count bag a (count_of bag a - (k + 1))
-taken_more r bag old new a k known kept was ok err missing =
-    let left : count_of old a ≡ count_of bag a - k = ap (λ (b : Multiset). count_of b a) was ∙ count_set_own bag a (count_of bag a - k) in
-    let less : count_of old a - 1 ≡ count_of bag a - (k + 1) = omega arith in
-    let still : IsBag old = subst IsBag (sym was) (bag_set_count bag a (count_of bag a - k) known kept) in
-    taken_once r old new a known still ok err missing
-    ∙ ap (λ n. with_count old a n) less
-    ∙ ap (λ (b : Multiset). with_count b a (count_of bag a - (k + 1))) was
-    ∙ set_twice bag a (count_of bag a - k) (count_of bag a - (k + 1)) known kept
+taken_more r bag old new a k known kept was ok err missing = grind (arith, count_set_own, bag_set_count, taken_once, set_twice)
 
 pub no_copy_less : (n : ℕ) → n ≡ n - 0
 no_copy_less n = omega arith

@@ -1,5 +1,5 @@
 -- Edits of a list of entries at an atom's place, as edits of the counts.
-use Rattle.std.proofs.Common.{◌≡◌, ℕ, ◌+◌, ◌<◌, Bool, true, false, cond, not, ◌==◌, List, [], ◌∷◌, None, unwrap_or, refl, sym, ap, subst, ◌∙◌, arith}
+use Rattle.std.proofs.Common.{◌≡◌, ℕ, ◌+◌, ◌<◌, Bool, true, cond, not, ◌==◌, List, [], ◌∷◌, None, unwrap_or, refl, sym, ap, subst, ◌∙◌, arith}
 use Rattle.std.specs.Prelude.{sum_by, T}
 use Rattle.std.specs.List.{AllByRecursion}
 use Rattle.std.proofs.lemmas.List.Sums.{sum_by-cons}
@@ -23,11 +23,7 @@ pub true_is : {b : Bool} → b ≡ true → T b
 true_is {b} e = subst T (sym e) tt
 
 pub is_true : {b : Bool} → T b → b ≡ true
-is_true {b} t = by b t
-  where
-    by : (b : Bool) → T b → b ≡ true
-    by true h = refl
-    by false h = absurd h
+is_true {b} t = grind arith
 
 -- the conditional on a count that is 0 or not
 pub on_count : {A : Type 0} (P : A → Type 0) (n : ℕ) (x y : A) → (n ≡ 0 → P x) → (0 < n → P y) → P (cond (n == 0) x y)
@@ -81,15 +77,10 @@ module _ (worth : AtomTree → ℕ → ℕ) (nothing : (a : AtomTree) → worth 
 
   worth_without : (es : List Counted) (a : AtomTree) → IsRising es → worth_of (without a es) + worth a (find_count es a) ≡ worth_of es
   worth_without [] a rising = omega (arith, nothing a)
-  worth_without (e ∷ es) a rising =
-      let first = below_rest atom_cmp e es rising in
-      let kept = keep_below atom_cmp a es in
-      let rest = worth_without es a (rest_sorted atom_cmp e es rising) in
-      grind (arith, worth_of-cons, atom_cmp_ties a e.0)
+  worth_without (e ∷ es) a rising = grind (arith, below_rest atom_cmp e es rising, keep_below atom_cmp a es, rest_sorted atom_cmp e es rising, worth_of-cons, atom_cmp_ties a e.0, worth_without es a (rest_sorted atom_cmp e es rising), e.0)
 
   pub worth_set : (es : List Counted) (a : AtomTree) (n : ℕ) → IsRising es → worth_of (set_among es a n) + worth a (find_count es a) ≡ worth_of es + worth a n
-  worth_set es a n rising = on_count (λ z. worth_of z + worth a (find_count es a) ≡ worth_of es + worth a n) n (without a es) (put atom_cmp a n es)
-      (λ e. omega (arith, worth_without es a rising, nothing a, ap (worth a) e)) (λ some. worth_put es a n rising)
+  worth_set es a n rising = grind (arith, on_count, worth_without, worth_put)
 
 -- the copies of all entries
 abbrev pub total : List Counted → ℕ

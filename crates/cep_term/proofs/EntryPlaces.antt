@@ -34,8 +34,7 @@ earlier_is_less bag = later_less (finite.entries bag) (entries_rise bag)
 find_placed : (es : List Counted) → IsRising es → (j : ℕ) (a : AtomTree) (n : ℕ) → slice_get es j ≡ Some (a, n) → find atom_cmp a es ≡ Some n
 find_placed [] rising j a n is = none_some _ is
 find_placed (e ∷ es) rising zero a n is = let here = some_same e (a, n) is in rw (here, tied_itself atom_cmp_total a) refl
-find_placed (e ∷ es) rising (suc j) a n is =
-    rw (greater atom_cmp atom_cmp_total a e.0 (below_at e.0 es (below_rest atom_cmp e es rising) j a n is)) (find_placed es (rest_sorted atom_cmp e es rising) j a n is)
+find_placed (e ∷ es) rising (suc j) a n is = grind (arith, greater, atom_cmp_total, below_at, below_rest, rest_sorted, e.0, find_placed es (rest_sorted atom_cmp e es rising) j a n is)
 
 -- the count of an atom is that of its entry
 pub entry_counted : (bag : Multiset) (i : ℕ) (a : AtomTree) (n : ℕ) → slice_get (finite.entries bag) i ≡ Some (a, n) → count_of bag a ≡ n

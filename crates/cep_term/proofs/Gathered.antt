@@ -17,9 +17,7 @@ gathered_copies (a ∷ atoms) = omega (arith, gathered_copies atoms, copies_with
 
 pub gathered_nodes : (atoms : List AtomTree) → nodes_in_all (gathered atoms) ≡ sum_by atom_nodes atoms
 gathered_nodes [] = nodes_empty
-gathered_nodes (a ∷ atoms) =
-    let count = count_of (gathered atoms) a in
-    omega (arith, gathered_nodes atoms, nodes_set_count (gathered atoms) a (count + 1), add-mul count 1 (atom_nodes a), sum_by-cons atom_nodes a atoms)
+gathered_nodes (a ∷ atoms) = grind (arith, nodes_set_count, add-mul, sum_by-cons atom_nodes a atoms, gathered_nodes atoms)
 
 -- no atom loses a copy where one is added
 more_copies : (bag : Multiset) (x a : AtomTree) (t : Bool) → eq_by_cmp atom_cmp a x ≡ t → 0 < count_of bag a → 0 < cond t (count_of bag x + 1) (count_of bag a)

@@ -106,12 +106,10 @@ same_counts bag other kept others same = finite.same_map atom_cmp_total atom_cmp
 
 -- what is taken from a multiset and added again leaves it as it was, and the other way round
 pub sum_of_difference : (bag other : Multiset) → IsBag bag → IsBag other → IsContained other bag → sum_of (difference_of bag other) other ≡ bag
-sum_of_difference bag other kept others contained = same_counts _ bag (bag_sum (difference_of bag other) other (bag_difference bag other kept others) others) kept (λ q.
-    omega (arith, count_sum (difference_of bag other) other q, count_difference bag other q, contained q))
+sum_of_difference bag other kept others contained = grind (arith, same_counts, bag_sum, bag_difference, count_sum, count_difference)
 
 pub difference_of_sum : (bag other : Multiset) → IsBag bag → IsBag other → difference_of (sum_of bag other) other ≡ bag
-difference_of_sum bag other kept others = same_counts _ bag (bag_difference (sum_of bag other) other (bag_sum bag other kept others) others) kept (λ q.
-    omega (arith, count_difference (sum_of bag other) other q, count_sum bag other q))
+difference_of_sum bag other kept others = grind (arith, same_counts, bag_difference, bag_sum, count_difference, count_sum)
 
 -- an atom's count is at most the number of copies
 pub count_le_copies : (bag : Multiset) (a : AtomTree) → count_of bag a ≤ copies_in bag
@@ -120,8 +118,7 @@ count_le_copies bag a = omega (arith, count_le_total (finite.entries bag) a, cou
 -- the worth of a multiset after a count is set, and of a sum
 module _ (worth : AtomTree → ℕ → ℕ) (nothing : (a : AtomTree) → worth a 0 ≡ 0) where
   pub worth_set_count : (bag : Multiset) (a : AtomTree) (n : ℕ) → worth_of worth nothing (finite.entries (with_count bag a n)) + worth a (count_of bag a) ≡ worth_of worth nothing (finite.entries bag) + worth a n
-  worth_set_count bag a n =
-      omega (arith, ap (worth_of worth nothing) (entries_set bag a n), worth_set worth nothing (finite.entries bag) a n (entries_rise bag), ap (worth a) (count_among_entries bag a))
+  worth_set_count bag a n = grind (arith, worth_of, entries_set, worth_set, entries_rise, count_among_entries)
 
   pub worth_sum : ((a : AtomTree) (n m : ℕ) → worth a (n + m) ≡ worth a n + worth a m) → (es : List Counted) (bag : Multiset)
       → worth_of worth nothing (finite.entries (each_by (λ n m. n + m) (λ n. omega arith) es bag)) ≡ worth_of worth nothing (finite.entries bag) + worth_of worth nothing es
@@ -152,12 +149,10 @@ copies_with_one bag a = omega (arith, copies_set_count bag a (count_of bag a + 1
 
 -- sums may be taken in any order and grouping
 pub sum_commutes : (bag other : Multiset) → IsBag bag → IsBag other → sum_of bag other ≡ sum_of other bag
-sum_commutes bag other kept others = same_counts _ _ (bag_sum bag other kept others) (bag_sum other bag others kept) (λ q.
-    omega (arith, count_sum bag other q, count_sum other bag q))
+sum_commutes bag other kept others = grind (arith, same_counts, bag_sum, count_sum)
 
 pub sum_groups : (x y z : Multiset) → IsBag x → IsBag y → IsBag z → sum_of (sum_of x y) z ≡ sum_of x (sum_of y z)
-sum_groups x y z p q r = same_counts _ _ (bag_sum (sum_of x y) z (bag_sum x y p q) r) (bag_sum x (sum_of y z) p (bag_sum y z q r)) (λ a.
-    omega (arith, count_sum (sum_of x y) z a, count_sum x y a, count_sum x (sum_of y z) a, count_sum y z a))
+sum_groups x y z p q r = grind (arith, same_counts, bag_sum, count_sum)
 
 -- one copy more of either part is one copy more of the sum
 pub sum_with_one : (bag other : Multiset) (a : AtomTree) → IsGroundAtom a → IsBag bag → IsBag other → sum_of (with_one bag a) other ≡ with_one (sum_of bag other) a
@@ -173,6 +168,5 @@ bag_gathered [] all = bag_empty
 bag_gathered (a ∷ atoms) all = bag_set_count (gathered atoms) a (count_of (gathered atoms) a + 1) all.0 (bag_gathered atoms all.1)
 
 pub gathered-append : (xs ys : List AtomTree) → AllByRecursion IsGroundAtom xs → AllByRecursion IsGroundAtom ys → gathered (xs ++ ys) ≡ sum_of (gathered xs) (gathered ys)
-gathered-append [] ys p q = same_counts _ _ (bag_gathered ys q) (bag_sum finite.empty (gathered ys) bag_empty (bag_gathered ys q)) (λ a.
-    omega (arith, count_sum finite.empty (gathered ys) a, count_empty a))
+gathered-append [] ys p q = grind (arith, same_counts, bag_gathered, bag_sum, bag_empty, count_sum, count_empty)
 gathered-append (x ∷ xs) ys p q = ap (λ z. with_one z x) (gathered-append xs ys p.1 q) ∙ sym (sum_with_one (gathered xs) (gathered ys) x p.0 (bag_gathered xs p.1) (bag_gathered ys q))

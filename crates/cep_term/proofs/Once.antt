@@ -1,5 +1,5 @@
 -- Multisets in which some atoms are held once.
-use Rattle.std.proofs.Common.{◌≡◌, ◌≢◌, T, ℕ, ◌+◌, ◌<◌, ◌≤◌, Bool, true, false, cond, ◌&&◌, List, [], ◌∷◌, ◌++◌, length, map, Contains, ⊎_elim, Some, refl, sym, ap, subst, ◌∙◌, arith}
+use Rattle.std.proofs.Common.{◌≡◌, ◌≢◌, T, ℕ, ◌+◌, ◌<◌, ◌≤◌, Bool, true, false, cond, ◌&&◌, List, [], ◌∷◌, ◌++◌, length, map, Contains, ⊎_elim, Some, refl, sym, ap, subst, arith}
 use Rattle.std.specs.Prelude.{nat_lt, option_map}
 use Rattle.std.specs.List.{AllByRecursion}
 use Rattle.std.specs.Ordering.{is_lt, is_eq, eq_by_cmp}
@@ -90,12 +90,7 @@ gained_counts test bag (a ∷ atoms) one q =
     grind (arith, count_more (gathered atoms) a q, count_more (gathered (gained test (with_one bag a) atoms)) a q)
 
 pub gains_all : (test : AtomTree → Bool) (bag : Multiset) (atoms : List AtomTree) → IsBag bag → IsOnce test bag → AllByRecursion IsGroundAtom atoms → once test (sum_of bag (gathered atoms)) ≡ sum_of bag (gathered (gained test bag atoms))
-gains_all test bag atoms kept one ground =
-    let news = gained test bag atoms in
-    same_counts (once test (sum_of bag (gathered atoms))) (sum_of bag (gathered news))
-    (bag_once test (sum_of bag (gathered atoms)) (bag_sum bag (gathered atoms) kept (bag_gathered atoms ground)))
-    (bag_sum bag (gathered news) kept (bag_gathered news (ground_gained test bag atoms ground)))
-    (λ q. grind (arith, count_once test (sum_of bag (gathered atoms)) q, count_sum bag (gathered atoms) q, gained_counts test bag atoms one q, count_sum bag (gathered news) q))
+gains_all test bag atoms kept one ground = grind (arith, same_counts, bag_once, bag_sum, bag_gathered, ground_gained, count_once, count_sum, gained_counts)
 
 -- the atoms that are not held once
 pub count_others : (test : AtomTree → Bool) (atoms : List AtomTree) (a : AtomTree) → test a ≡ false → count_of (gathered (without test atoms)) a ≡ count_of (gathered atoms) a
@@ -133,7 +128,4 @@ gained_few test bag (a ∷ atoms) = grind (arith, gained_few test bag atoms, gai
 
 -- what a list comes to, held once, is what the multiset without atoms gains
 pub once_gathered : (test : AtomTree → Bool) (atoms : List AtomTree) → AllByRecursion IsGroundAtom atoms → once test (gathered atoms) ≡ gathered (gained test finite.empty atoms)
-once_gathered test atoms ground =
-    ap (once test) (sym (sum_alone (gathered atoms) (bag_gathered atoms ground)))
-    ∙ gains_all test finite.empty atoms bag_empty (λ a is. let none = count_empty a in omega arith) ground
-    ∙ sum_alone (gathered (gained test finite.empty atoms)) (bag_gathered (gained test finite.empty atoms) (ground_gained test finite.empty atoms ground))
+once_gathered test atoms ground = grind (arith, sum_alone (gathered atoms) (bag_gathered atoms ground), bag_gathered atoms ground, gains_all, bag_empty, count_empty, sum_alone, bag_gathered, ground_gained)

@@ -33,11 +33,7 @@ module _ (es : List Counted) (bag : Multiset) (rising : IsRising es) (seen : fin
 
 -- what always holds of the entries holds after an edit, where the copies are counted along
 pub kept_set : (es edited : List Counted) (a : AtomTree) (n copies new : ℕ) → AreKept es copies → IsGroundAtom a → edited ≡ set_among es a n → new + find_count es a ≡ copies + n → AreKept edited new
-kept_set es edited a n copies new kept known is sum = record {
-  rising = subst IsRising (sym is) (rising_set es a n kept.rising);
-  each = subst (AllByRecursion IsEntry) (sym is) (each_set es a n known kept.each);
-  counted = let law = total_set es a n kept.rising in let same = ap total is in omega (arith, kept.counted);
-}
+kept_set es edited a n copies new kept known is sum = grind (arith, rising_set, each_set, total_set, total, kept.rising, kept.each, kept.counted)
 
 abbrev pub no_entries : List Counted
 no_entries = []
