@@ -8,3 +8,5 @@ mod Trailing
 mod Graphed
 mod Sorted
 mod Typed
+mod OneGraph
+mod Counted

@@ -1,3 +1,4 @@
 pub mod Queues
 pub mod Traces
 pub mod Trails
+pub mod BySeed

@@ -89,15 +89,16 @@ log_is_of through program bytes left number so_far log short passed none said =
     let counted = all.1 in
     said_is_of program number so_far log (omega arith) (read_is_of through program (all_lines bytes) left number so_far passed) said
 
-pub stops_said : (program : Parts) (bytes : List ℕ) (left : List (List ℕ)) (number : ℕ) (so_far : SoFar) → HasPassed program (all_lines bytes) left number so_far → left ≡ [] → said_by so_far number ≡ None → HasMisfit program bytes (Line (number + 1))
-stops_said program bytes left number so_far passed none said =
+pub stops_said : (program : Parts) (bytes : List ℕ) (left : List (List ℕ)) (number : ℕ) (so_far : SoFar) → length bytes ≤ MOST_LOG → HasPassed program (all_lines bytes) left number so_far → left ≡ [] → said_by so_far number ≡ None → HasMisfit program bytes (Line (number + 1))
+stops_said program bytes left number so_far short passed none said =
     let all = all_done program (all_lines bytes) number so_far (subst (λ rest. HasPassed program (all_lines bytes) rest number so_far) none passed) in
-    record { lines = all_lines bytes; cut = lines_are bytes; why = inr (record { last = so_far; leads = all.0; open_still = subst (λ (n : ℕ). said_by so_far n ≡ None) all.1 said; fault_is = ap (λ (n : ℕ). Line (n + 1)) all.1 }) }
+    record { short = short; lines = all_lines bytes; cut = lines_are bytes; why = inr (record { last = so_far; leads = all.0; open_still = subst (λ (n : ℕ). said_by so_far n ≡ None) all.1 said; fault_is = ap (λ (n : ℕ). Line (n + 1)) all.1 }) }
 
-pub misfit_said : (program : Parts) (bytes : List ℕ) (left behind : List (List ℕ)) (line : List ℕ) (number : ℕ) (so_far : SoFar) (fault : LogFault) → HasPassed program (all_lines bytes) left number so_far → left ≡ line ∷ behind
+pub misfit_said : (program : Parts) (bytes : List ℕ) (left behind : List (List ℕ)) (line : List ℕ) (number : ℕ) (so_far : SoFar) (fault : LogFault) → length bytes ≤ MOST_LOG → HasPassed program (all_lines bytes) left number so_far → left ≡ line ∷ behind
     → ((new : SoFar) → ¬ (MovesOn program (number + 1) line so_far new)) → IsFaultOf program (number + 1) line so_far fault → HasMisfit program bytes fault
-misfit_said program bytes left behind line number so_far fault passed is nowhere why =
+misfit_said program bytes left behind line number so_far fault short passed is nowhere why =
     record {
+      short = short;
       lines = all_lines bytes;
       cut = lines_are bytes;
       why = inl (record {

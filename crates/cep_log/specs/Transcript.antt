@@ -264,8 +264,9 @@ pub record StopsEarly (program : Parts) (lines : List (List ℕ)) (fault : LogFa
   pub open_still : said_by last (length lines) ≡ None
   pub fault_is : fault ≡ Line (length lines + 1)
 
--- The bytes are no transcript, and this is the first misfit.
+-- The bytes, no more than 67,108,864, are no transcript, and this is the first misfit.
 pub record HasMisfit (program : Parts) (bytes : List ℕ) (fault : LogFault) : Type 0 where
+  pub short : length bytes ≤ MOST_LOG
   pub lines : List (List ℕ)
   pub cut : AreLines bytes lines
   pub why : IsFirstMisfit program lines fault ⊎ StopsEarly program lines fault

@@ -26,7 +26,7 @@ use Rattle.cep_check.specs.Telling.{verdict_text, fault_text}
 use Rattle.cep_check.specs.Renewed.{IsTooLongRenewed}
 use Rattle.cep_cause.specs.declared.reordered.Reordered.{Reordered}
 use Rattle.cep_cause.specs.declared.reordered.Reordered.TheVariants.{Done, Unfit, TooLong}
-use Rattle.cep_reorder.specs.BySeed.{IsReorderedBy}
+use Rattle.cep_graph.specs.BySeed.{IsReorderedBy}
 use Rattle.cep_weigh.specs.declared.fault.KeepFault.{KeepFault}
 use Rattle.cep_weigh.specs.declared.weight.Weight.{Weight}
 use Rattle.cep_weigh.specs.declared.weight.Against.{Against}
@@ -211,11 +211,11 @@ module _ (program : Parts) (bytes : List ℕ) (log : Log) (short : length bytes 
     log_reported task report of_log (inr (verdict, is, refused, same)) = subst (Reports task program bytes) (sym same) (why_reported task program bytes _ of_log (refusal_reported verdict is refused))
 
 -- bytes that are no transcript
-pub misfit_reported : (task : Task) (program : Parts) (bytes : List ℕ) (fault : LogFault) (report : Report) → ¬ (task ≡ Weigh) → length bytes ≤ MOST_LOG → HasMisfit program bytes fault
+pub misfit_reported : (task : Task) (program : Parts) (bytes : List ℕ) (fault : LogFault) (report : Report) → ¬ (task ≡ Weigh) → HasMisfit program bytes fault
     → ((log : Log) → HasLog program bytes log → ¬ (HasMisfit program bytes fault)) → report ≡ line_report (fault_text fault) 1 → Reports task program bytes report
-misfit_reported task program bytes fault report of_log short misfit apart same =
+misfit_reported task program bytes fault report of_log misfit apart same =
     subst (Reports task program bytes) (sym same)
-    (why_reported task program bytes _ of_log (fault_text fault, record { no_legal = λ log legal. apart log legal.1 misfit; why = inr (inl (fault, short, misfit, refl)) }, refl))
+    (why_reported task program bytes _ of_log (fault_text fault, record { no_legal = λ log legal. apart log legal.1 misfit; why = inr (inl (fault, misfit, refl)) }, refl))
 
 -- bytes that are too many
 too_many : (program : Parts) (bytes : List ℕ) → MOST_LOG < length bytes → Rejects program bytes too_long_text

@@ -4,7 +4,7 @@ use Rattle.cep_rule.specs.declared.parts.Parts.{Parts}
 use Rattle.cep_log.specs.declared.log.Log.{Log}
 use Rattle.cep_cause.specs.declared.reordered.Reordered.{Reordered}
 use Rattle.cep_cause.specs.declared.reordered.Reordered.TheVariants.{Done, Unfit, TooLong}
-use Rattle.cep_reorder.specs.BySeed.{IsReorderedBy}
+use Rattle.cep_graph.specs.BySeed.{IsReorderedBy}
 use Rattle.cep_play.specs.Outside.{Report, line_report}
 use Rattle.cep_play.specs.Renew.{new_too_long_text}
 

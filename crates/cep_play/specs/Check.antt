@@ -25,7 +25,7 @@ too_long_text = codes "refused 0 TooLong"
 abbrev pub TellsWhy : Parts → List ℕ → List ℕ → Type 0
 TellsWhy program bytes text =
     ((MOST_LOG < length bytes) × (text ≡ too_long_text))
-    ⊎ (((fault : LogFault) × (length bytes ≤ MOST_LOG) × HasMisfit program bytes fault × (text ≡ fault_text fault))
+    ⊎ (((fault : LogFault) × HasMisfit program bytes fault × (text ≡ fault_text fault))
     ⊎ ((log : Log) × (number : ℕ) × (cause : Cause) × HasLog program bytes log × IsLogRefused program log number cause × (text ≡ refused_text number (cause_text program cause))))
 
 -- The bytes are no legal transcript, and the line tells why.

@@ -9,7 +9,7 @@ use crate::report::{Report, Status};
 use cep_base::Text;
 use cep_cause::Reordered;
 use cep_log::Log;
-use cep_reorder::reorder;
+use cep_graph::reorder;
 use cep_rule::Program;
 use std::alloc::{AllocError, Global};
 

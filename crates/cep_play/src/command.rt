@@ -17,7 +17,7 @@ use cep_base::{Console, ConsoleFault, Shelf, Steps};
 use cep_ground::laws::clean_parts_are_a_program;
 use cep_log::laws::one_log;
 use cep_players::laws::dialogues_in_rounds_are_there;
-use cep_reorder::laws::one_reordering_by_a_seed;
+use cep_graph::laws::one_reordering_by_a_seed;
 use cep_replay::laws::{interactive_logs_are_answered, legal_logs_can_be_played};
 use cep_run::laws::dialogues_are_there;
 use cep_weigh::laws::one_reading;

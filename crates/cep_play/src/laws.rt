@@ -6,7 +6,7 @@ ghost use Rattle.cep_play.specs.Due.{IsDue};
 
 use cep_ground::laws::clean_parts_are_a_program;
 use cep_log::laws::one_log;
-use cep_reorder::laws::one_reordering_by_a_seed;
+use cep_graph::laws::one_reordering_by_a_seed;
 use cep_weigh::laws::one_reading;
 use cep_words::laws::one_request;
 

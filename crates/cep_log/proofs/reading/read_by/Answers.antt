@@ -24,7 +24,7 @@ loop-line-preserved c =
 
 pub returns-in-Err-clause-fault : goal.returns-in-Err-clause-fault
 returns-in-Err-clause-fault c =
-    misfit_said c.args.vocabulary.now c.args.bytes.now c.loop-line.line-iterator c.next.new.self c.in-Some.line.now c.loop-line.number c.loop-line.so_far c.in-Err.fault c.loop-line.invariant c.in-Some.ensures.steps
+    misfit_said c.args.vocabulary.now c.args.bytes.now c.loop-line.line-iterator c.next.new.self c.in-Some.line.now c.loop-line.number c.loop-line.so_far c.in-Err.fault c.requires c.loop-line.invariant c.in-Some.ensures.steps
     (told_err c.in_ok-next.field-0 c.in-Err.fault _ c.in-Err.is c.in_ok-next.ensures.nowhere) (told_err c.in_ok-next.field-0 c.in-Err.fault _ c.in-Err.is c.in_ok-next.ensures.fault)
 
 pub overflow_add-result : goal.overflow_add-result
@@ -42,4 +42,4 @@ returns-in-Some-2-clause-of_program c =
 
 pub returns-in-None-2-clause-fault : goal.returns-in-None-2-clause-fault
 returns-in-None-2-clause-fault c =
-    stops_said c.args.vocabulary.now c.args.bytes.now c.loop-line.line-iterator c.loop-line.number c.loop-line.so_far c.loop-line.invariant c.in-None.ensures.steps.0 (sym c.in_ok-log.ensures ∙ c.in-None-2.is)
+    stops_said c.args.vocabulary.now c.args.bytes.now c.loop-line.line-iterator c.loop-line.number c.loop-line.so_far c.requires c.loop-line.invariant c.in-None.ensures.steps.0 (sym c.in_ok-log.ensures ∙ c.in-None-2.is)

@@ -18,5 +18,5 @@ returns-in-Err-clause-judged g c =
     let program = c.args.program.now in
     let bytes = c.args.bytes.now in
     IfOk-weaker c.report_fault.result _ _
-    (λ report is. misfit_reported c.args.task program bytes c.in-Err.fault (report_of report) c.requires.of_log c.requires.short (rw c.in-Err.is at c.in_ok-log.ensures.fault) (λ log has. c.one_log.ensures.apart program bytes log c.in-Err.fault c.parts.ensures.kept has) is)
+    (λ report is. misfit_reported c.args.task program bytes c.in-Err.fault (report_of report) c.requires.of_log (rw c.in-Err.is at c.in_ok-log.ensures.fault) (λ log has. c.one_log.ensures.apart program bytes log c.in-Err.fault c.parts.ensures.kept has) is)
     c.report_fault.ensures

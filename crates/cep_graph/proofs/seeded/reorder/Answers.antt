@@ -1,4 +1,4 @@
-use Rattle.cep_reorder.proofs.seeded.reorder.Goals as goal
+use Rattle.cep_graph.proofs.seeded.reorder.Goals as goal
 
 pub again-requires-clause-order : goal.again-requires-clause-order
 again-requires-clause-order c =

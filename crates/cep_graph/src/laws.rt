@@ -6,7 +6,7 @@ ghost use Rattle.cep_log.specs.declared.log.Log.{Log};
 ghost use Rattle.cep_order.specs.declared.step_cause.StepCause.{StepCause};
 ghost use Rattle.cep_cause.specs.declared.reordered.Reordered.{Reordered};
 ghost use Rattle.cep_cause.specs.Graphs.{IsGraph};
-ghost use Rattle.cep_reorder.specs.BySeed.{IsReorderedBy};
+ghost use Rattle.cep_graph.specs.BySeed.{IsReorderedBy};
 
 use cep_cause::laws::{logs_touch_tokens, orders_come_to_one_answer};
 use cep_order::laws::one_order_for_a_seed;

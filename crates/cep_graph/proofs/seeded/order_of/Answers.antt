@@ -1,5 +1,5 @@
-use Rattle.cep_reorder.proofs.Counted.{few_causes}
-use Rattle.cep_reorder.proofs.seeded.order_of.Goals as goal
+use Rattle.cep_graph.proofs.Counted.{few_causes}
+use Rattle.cep_graph.proofs.seeded.order_of.Goals as goal
 
 pub order_by-requires-clause-few : goal.order_by-requires-clause-few
 order_by-requires-clause-few c = few_causes c.args.program.now c.args.log.now c.in_ok-causes.causes c.requires c.in_ok-causes.ensures

@@ -1,10 +1,10 @@
 ghost use Rattle.std.specs.Prelude.{IfOk};
 ghost use Rattle.cep_log.specs.Legal.{IsLegal};
-ghost use Rattle.cep_reorder.specs.BySeed.{IsOrderOf, IsReorderedBy};
+ghost use Rattle.cep_graph.specs.BySeed.{IsOrderOf, IsReorderedBy};
 
+use crate::graph_of::graph;
 use cep_cause::laws::orders_by_seeds_are_orders;
 use cep_cause::{Reordered, again};
-use cep_graph::graph;
 use cep_log::Log;
 use cep_order::{Numbers, order_by};
 use cep_rule::Program;

@@ -3,7 +3,7 @@ use Rattle.cep_order.specs.declared.step_cause.StepCause.{StepCause}
 use Rattle.cep_order.specs.Orders.{IsOrderBy}
 use Rattle.cep_cause.specs.Reorderings.{step_places}
 use Rattle.cep_cause.specs.Reordered.{ComesTo}
-use Rattle.cep_reorder.proofs.laws.one_reordering_by_a_seed.Goals as goal
+use Rattle.cep_graph.proofs.laws.one_reordering_by_a_seed.Goals as goal
 
 pub returns : goal.returns
 returns c = λ program log seed one other is is'.

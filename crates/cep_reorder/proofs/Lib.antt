@@ -1,2 +1,0 @@
-pub mod OneGraph
-pub mod Counted
