@@ -1,64 +1,14 @@
 -- The places of a text, from one to the next.
-use Rattle.std.proofs.Common.{◌≡◌, ◌≢◌, ◌⊎◌, ℕ, ◌+◌, ◌<◌, ◌≤◌, ◌==◌, cond, min, map, length, take, drop, get_or, List, [], ◌∷◌, ◌++◌, refl, sym, ap, subst, ◌∙◌, inl, inr, arith, append_assoc, length-append, length-drop, append-nil}
-use Rattle.std.specs.List.{count_by, slice_range}
+use Rattle.std.proofs.Common.{◌≡◌, ◌⊎◌, ℕ, ◌+◌, ◌<◌, ◌≤◌, ◌==◌, min, map, length, take, drop, get_or, List, [], ◌∷◌, ◌++◌, refl, sym, ap, subst, ◌∙◌, inl, inr, arith, length-append, length-drop}
+use Rattle.std.specs.List.{slice_range}
 use Rattle.std.proofs.Math.Nat.{min-le_right}
-use Rattle.std.proofs.lemmas.Bool.{eq-eqb, ne_eqb}
 use Rattle.std.proofs.lemmas.List.{length-take, take_more, take-take, take_min, take-append-drop, map-append}
-use Rattle.std.proofs.lemmas.List.Sums.{count_by-le-length, sum_by_push}
+use Rattle.std.proofs.lemmas.List.Sums.{count_by-le-length}
 use Rattle.std.proofs.lemmas.Slice.{between_is}
 use Rattle.cep_base.specs.declared.place.Pos.{Pos}
-use Rattle.cep_base.specs.Spelling.{IsUnbroken}
 use Rattle.cep_lex.specs.Places.{IsPlaceAfter}
 use Rattle.cep_infer.specs.declared.places.Reached.{Reached}
 use Rattle.cep_infer.specs.Places.{IsReached, ArePlaces, ArePlaceLists}
-
--- ---- one byte further
-
-unbroken_push : (bytes : List ℕ) (byte : ℕ) → IsUnbroken bytes → byte ≢ 10 → IsUnbroken (bytes ++ byte ∷ [])
-unbroken_push [] byte unbroken no_break = (no_break, tt)
-unbroken_push (b ∷ bytes) byte unbroken no_break = (unbroken.0, unbroken_push bytes byte unbroken.1 no_break)
-
-abbrev breaks : List ℕ → ℕ
-breaks bytes = count_by (λ byte. byte == 10) bytes
-
-counted_break : (before : List ℕ) (byte : ℕ) → byte ≡ 10 → breaks (before ++ byte ∷ []) ≡ breaks before + 1
-counted_break before byte is = sum_by_push (λ b. cond (b == 10) 1 0) before byte ∙ ap (λ b. breaks before + cond b 1 0) (eq-eqb byte 10 is)
-
-counted_more : (before : List ℕ) (byte : ℕ) → byte ≢ 10 → breaks (before ++ byte ∷ []) ≡ breaks before + 0
-counted_more before byte is = sum_by_push (λ b. cond (b == 10) 1 0) before byte ∙ ap (λ b. breaks before + cond b 1 0) (ne_eqb byte 10 is)
-
--- after an LF
-pub place_break : (before : List ℕ) (byte line : ℕ) (pos : Pos) → byte ≡ 10 → line ≡ pos.line + 1 → IsPlaceAfter before pos → IsPlaceAfter (before ++ byte ∷ []) (record { line = line; col = 1 })
-place_break before byte line pos is line_is place = record {
-  lines = before ++ 10 ∷ [];
-  bytes = [];
-  cut = ap (λ b. before ++ b ∷ []) is ∙ sym (append-nil (before ++ 10 ∷ []));
-  ended = inr (before, refl);
-  unbroken = tt;
-  line = let more = counted_break before byte is in omega (arith, place.line);
-  col = refl;
-}
-
--- after another byte
-pub place_more : (before : List ℕ) (byte col : ℕ) (pos : Pos) → byte ≢ 10 → col ≡ pos.col + 1 → IsPlaceAfter before pos → IsPlaceAfter (before ++ byte ∷ []) (record { line = pos.line; col = col })
-place_more before byte col pos is col_is place = record {
-  lines = place.lines;
-  bytes = place.bytes ++ byte ∷ [];
-  cut = ap (λ b. b ++ byte ∷ []) place.cut ∙ append_assoc place.lines place.bytes (byte ∷ []);
-  ended = place.ended;
-  unbroken = unbroken_push place.bytes byte place.unbroken is;
-  line = let more = counted_more before byte is in omega (arith, place.line);
-  col = let s = length-append place.bytes (byte ∷ []) in omega (arith, place.col);
-}
-
--- ---- some bytes further
-
-pub no_bytes : (before : List ℕ) (pos : Pos) → IsPlaceAfter before pos → IsPlaceAfter (before ++ []) pos
-no_bytes before pos place = subst (λ (bytes : List ℕ). IsPlaceAfter bytes pos) (sym (append-nil before)) place
-
-pub bytes_more : (before bytes : List ℕ) (i d : ℕ) (pos : Pos) → i < length bytes → IsPlaceAfter ((before ++ take i bytes) ++ get_or bytes i d ∷ []) pos → IsPlaceAfter (before ++ take (i + 1) bytes) pos
-bytes_more before bytes i d pos h place =
-    subst (λ (bytes_ : List ℕ). IsPlaceAfter bytes_ pos) (append_assoc before (take i bytes) (get_or bytes i d ∷ []) ∙ ap (λ b. before ++ b) (sym (take_more bytes i d h))) place
 
 -- ---- places in a text
 

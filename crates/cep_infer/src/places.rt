@@ -10,6 +10,7 @@ ghost use Rattle.cep_infer.specs.Places.{IsReached, ArePlaces, ArePlaceLists, ba
 
 use crate::draft::{PlaceLists, Places};
 use cep_base::{Pos, PredKind};
+use cep_lex::place_after;
 use cep_parse::RawNode;
 use cep_source::{RuleRef, Source, Variables, blanks_behind, variable_at};
 use std::alloc::AllocError;
@@ -33,25 +34,6 @@ pub(crate) struct RulePlaces {
     pub unbound: PlaceLists,
 }
 
-// Some bytes further.
-fn passed(pos: Pos, bytes: &[u8]) -> Pos
-    requires line { pos.line + length bytes.now < 2 ^ 32 }
-    requires col { pos.col + length bytes.now < 2 ^ 32 }
-    ensures { (before : List ℕ) → IsPlaceAfter before pos
-        → IsPlaceAfter (before ++ bytes.now) result }
-{
-    let mut behind = pos;
-    for byte in bytes {
-        if *byte != b'\n' {
-            behind.col += 1;
-            continue;
-        }
-        behind.line += 1;
-        behind.col = 1;
-    }
-    behind
-}
-
 // The line and column of a place, from one that was reached, or from the front where it lies
 // before.
 fn reach(text: &[u8], from: Reached, at: u32) -> Reached
@@ -62,7 +44,7 @@ fn reach(text: &[u8], from: Reached, at: u32) -> Reached
 {
     let to = (at as usize).min(text.len());
     let start = if from.at <= to { from } else { FRONT };
-    let pos = passed(start.pos, &text[start.at..to]);
+    let pos = place_after(start.pos, &text[start.at..to]);
     Reached { at: to, pos }
 }
 
