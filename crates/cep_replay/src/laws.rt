@@ -15,10 +15,10 @@ ghost use Rattle.cep_replay.specs.Playing.{
   HaveFewOffers,
 };
 
+use cep_complete::laws::offers_are_there;
 use cep_log::laws::lines_are_read_as_written;
 use cep_rule::laws::{one_state_after_a_step, steps_lead_to_states, what_is_needed_is_there};
 use cep_run::laws::one_dialogue;
-use cep_scratch::laws::offers_are_there;
 
 /// A legal log can be played by typing, for each step that the player decides, the decimal place of
 /// its offer as a line: if each other step is the only one or the one that the seed draws, and the

@@ -28,11 +28,11 @@ ghost use Rattle.cep_run.specs.Dialogue.{question_events, turn_events, written_b
 ghost use Rattle.cep_run.specs.Fronts.{BeginsSome, LeavesUnheard, IsRunOf};
 
 use cep_choice::laws::drawn_places_are_within;
+use cep_complete::laws::offers_are_there;
 use cep_log::laws::{deeds_have_legal_logs, lines_are_read_as_written};
 use cep_rule::laws::{
     edits_are_steps, one_list_of_offers, one_state_after_a_step, steps_lead_to_states,
 };
-use cep_scratch::laws::offers_are_there;
 
 /// Whatever is typed, one choice is heard. A place that it chooses is one of those that there are,
 /// and what was heard is gone from the bytes to come.

@@ -1,0 +1,4 @@
+pub mod Asks
+pub mod Backs
+pub mod Completing
+pub mod Found
