@@ -1,4 +1,5 @@
 pub mod Partial
+pub mod Search
 pub mod Groups
 pub mod Scratch
 pub mod First
