@@ -7,7 +7,7 @@ use Rattle.std.proofs.Math.Nat.{add-mul}
 use Rattle.std.proofs.lemmas.List.{take_all}
 use Rattle.std.proofs.lemmas.List.Sums.{sum_by_push, sum_by-take-le}
 use Rattle.cep_term.specs.Tree.{AtomTree, atom_nodes}
-use Rattle.cep_term.specs.Multiset.{Multiset, nodes_in_all, IsEntry, IsBag}
+use Rattle.cep_term.specs.Multiset.{Multiset, nodes_in_all, IsBag}
 use Rattle.cep_base.proofs.Lists.{take_next, holds_at}
 
 -- the nodes of an entry, each copy counted
@@ -29,11 +29,7 @@ at_least_once (suc n) m h = let split = add-mul 1 n m in let next : suc n * m �
 
 -- an atom of a state has at most as many nodes as the state
 pub atom_within : (state : Multiset) (n : ℕ) (a : AtomTree) (copies : ℕ) → IsBag state → slice_get (finite.entries state) n ≡ Some (a, copies) → atom_nodes a ≤ nodes_in_all state
-atom_within state n a copies bag is =
-    let next = next_entry state n a copies is in
-    let most = first_entries state (n + 1) in
-    let once = at_least_once copies (atom_nodes a) (holds_at IsEntry (finite.entries state) n (a, copies) bag is).0 in
-    omega arith
+atom_within state n a copies bag is = grind (arith, next_entry state n a copies is, first_entries state (n + 1), at_least_once, holds_at)
 
 pub all_entries : (state : Multiset) (n : ℕ) → finite.len state ≤ n → sum_by entry_nodes (take n (finite.entries state)) ≡ nodes_in_all state
 all_entries state n most = ap (sum_by entry_nodes) (take_all n (finite.entries state) (subst (λ m. m ≤ n) (len-entries state) most))

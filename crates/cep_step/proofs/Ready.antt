@@ -1,5 +1,5 @@
 -- What is known of a rule with values by which there is a step.
-use Rattle.std.proofs.Common.{ℕ, ◌+◌, ◌<◌, ◌≤◌, ◌^◌, Bool, true, false, cond, not, ◌||◌, List, [], ◌∷◌, ◌++◌, length, sym, subst, arith}
+use Rattle.std.proofs.Common.{ℕ, ◌+◌, ◌<◌, ◌≤◌, ◌^◌, Bool, true, false, cond, not, ◌||◌, List, [], ◌∷◌, length, sym, subst, arith}
 use Rattle.std.specs.Prelude.{filter, IfSome}
 use Rattle.std.specs.List.{AllByRecursion}
 use Rattle.std.proofs.lemmas.List.{map-append, length-map, length-append}
@@ -33,21 +33,16 @@ use Rattle.cep_step.proofs.Weights.{exact}
 -- what holds of the instances of all atoms holds of those of the linear ones
 all_linear : (P : AtomTree → Type 0) (signature : Signature) (values : List Tree) (atoms : List AtomTree) → AllByRecursion P (full_instances values atoms) → AllByRecursion P (full_instances values (without (is_fact signature) atoms))
 all_linear P signature values [] all = tt
-all_linear P signature values (a ∷ atoms) all =
-    let rest = all_linear P signature values atoms all.1 in
-    elim (not (is_fact signature a)) as (λ t. AllByRecursion P (full_instances values (cond t (a ∷ without (is_fact signature) atoms) (without (is_fact signature) atoms)))) [ true ↦ (all.0, rest) | false ↦ rest ]
+all_linear P signature values (a ∷ atoms) all = grind (arith, all_linear P signature values atoms all.1, all.1, all.0)
 
 -- what holds of the instances of all premises holds of those that pass a test
 all_passing : (P : AtomTree → Type 0) (test : PremiseTree → Bool) (values : List Tree) (premises : List PremiseTree) → AllByRecursion P (full_instances values (premise_atoms premises)) → AllByRecursion P (full_instances values (premise_atoms (filter test premises)))
 all_passing P test values [] all = tt
-all_passing P test values (premise ∷ premises) all =
-    let rest = all_passing P test values premises all.1 in
-    elim (test premise) as (λ t. AllByRecursion P (full_instances values (premise_atoms (cond t (premise ∷ filter test premises) (filter test premises))))) [ true ↦ (all.0, rest) | false ↦ rest ]
+all_passing P test values (premise ∷ premises) all = grind (arith, premise_atoms, all_passing P test values premises all.1, all.1, all.0)
 
 -- typed atoms have a value for each of their variables
 pub in_range : StepLaws → (signature : Signature) (kinds : List ℕ) (values : List Tree) → AreValues signature.cons kinds values → (atoms : List AtomTree) → AllByRecursion (IsTyped signature kinds) atoms → AllByRecursion (IsAtomInRange (length values)) atoms
-in_range laws signature kinds values are atoms all =
-    all_weaker (IsTyped signature kinds) (IsAtomInRange (length values)) atoms (λ a (typed : IsTyped signature kinds a). rw (laws.types.as_many signature.cons kinds values are) (laws.types.in_range signature kinds a typed)) all
+in_range laws signature kinds values are atoms all = grind (arith, all_weaker, laws.types.as_many, signature.cons, laws.types.in_range)
 
 few_pass : {A : Type 0} (test : A → Bool) (xs : List A) → length (filter test xs) ≤ length xs
 few_pass test [] = omega arith
@@ -77,8 +72,7 @@ ready program rule values spot kept here can = record {
 
 module _ (laws : StepLaws) (program : Parts) (rule : Rule) (values : List Tree) (spot : Spot) (is : IsReady program rule values spot) where
   needed_fit : AllByRecursion IsFit (full_instances values (needed_of rule))
-  needed_fit = all_of IsFit (full_instances values (needed_of rule))
-      (λ a there. (is.here.is_state.each a (laws.there program.signature rule values spot.state a is.contained there)).fit)
+  needed_fit = grind (arith, all_of, is.here.is_state.each, laws.there, program.signature, spot.state, is.contained)
 
   -- the number by which an atom is not fit is exact where the values are small
   pub exact_number : (number : ℕ) → IsFirstUnfit IsBeyond (full_instances values rule.right) number → AllByRecursion IsSmallTerm values → IsExcess program.signature rule values spot.state Atom number
@@ -94,20 +88,7 @@ module _ (laws : StepLaws) (program : Parts) (rule : Rule) (values : List Tree) 
       (all_linear IsFit program.signature values (kept_of program.signature rule) (all_passing IsFit (λ premise. premise.kept || is_fact program.signature premise.atom) values rule.premises needed_fit)))
 
   pub few_taken : length (taken_by program.signature rule values) ≤ MOST_PREMISES
-  few_taken =
-      let most = is.small.premises in
-      let many = length-map (without (is_fact program.signature) (needed_of rule)) (full_instance values) in
-      let few = few_pass (λ a. not (is_fact program.signature a)) (needed_of rule) in
-      let all = length-map rule.premises (λ premise. premise.atom) in
-      omega arith
+  few_taken = grind (arith, length-map, few_pass, is.small.premises, program.signature, rule.premises)
 
   pub few_added : length (added_by program.signature rule values) ≤ MOST_PREMISES + MOST_RIGHT
-  few_added =
-      let most = is.small.premises in
-      let most' = is.small.right in
-      let many = length-map (rule.right ++ without (is_fact program.signature) (kept_of program.signature rule)) (full_instance values) in
-      let both = length-append rule.right (without (is_fact program.signature) (kept_of program.signature rule)) in
-      let few = few_pass (λ a. not (is_fact program.signature a)) (kept_of program.signature rule) in
-      let kept = length-map (filter (λ premise. premise.kept || is_fact program.signature premise.atom) rule.premises) (λ premise. premise.atom) in
-      let few' = few_pass (λ (premise : PremiseTree). premise.kept || is_fact program.signature premise.atom) rule.premises in
-      omega arith
+  few_added = grind (arith, length-map, length-append, few_pass, is.small.premises, is.small.right, rule.right, program.signature, rule.premises)

@@ -1,5 +1,5 @@
 -- The sizes of instances are those that are told from the sizes of the values, and they are bounded.
-use Rattle.std.proofs.Common.{◌≡◌, ℕ, zero, suc, ◌+◌, ◌*◌, ◌≤◌, ◌<◌, ◌^◌, List, [], ◌∷◌, ◌++◌, map, take, max, Some, None, unwrap_or, refl, sym, ap, ◌∙◌, arith}
+use Rattle.std.proofs.Common.{◌≡◌, ℕ, zero, suc, ◌+◌, ◌*◌, ◌≤◌, ◌<◌, ◌^◌, List, [], ◌∷◌, ◌++◌, map, take, max, Some, None, unwrap_or, refl, ap, ◌∙◌, arith}
 use Rattle.std.specs.Prelude.{slice_index_or, slice_get}
 use Rattle.std.specs.List.{AllByRecursion}
 use Rattle.std.proofs.Math.Nat.{add-mul}
@@ -35,20 +35,11 @@ under_at (t ∷ values) (suc v) w = under_at values v w
 mutual
   under : (values : List Tree) (t : Tree) → size_by (map size_of values) t ≡ size_of (term_instance (given values) t)
   under values (variable v) = under_at values v v
-  under values (node c args) = ap one_more (among values args) ∙ one_above (argument_instances (given values) args)
-    where
-      one_above : (others : Trees) → one_more (size_of_all others) ≡ record { nodes = capped (1 + argument_nodes others); depth = capped (1 + argument_depth others) }
-      one_above others = let nodes = capped_one (argument_nodes others) in let depth = capped_one (argument_depth others) in λ i. record { nodes = nodes i; depth = depth i }
+  under values (node c args) = grind (arith, among values args, capped_one)
 
   among : (values : List Tree) (args : Trees) → size_among (map size_of values) args ≡ size_of_all (argument_instances (given values) args)
   among values none = refl
-  among values (more t rest) =
-      let first = under values t in
-      let others = among values rest in
-      let nodes = capped_sum (term_nodes (term_instance (given values) t)) (argument_nodes (argument_instances (given values) rest)) in
-      let depth = capped_max (term_depth (term_instance (given values) t)) (argument_depth (argument_instances (given values) rest)) in
-      (λ i. record { nodes = capped ((first i).nodes + (others i).nodes); depth = max (first i).depth (others i).depth })
-      ∙ (λ i. record { nodes = nodes i; depth = depth i })
+  among values (more t rest) = grind (arith, under values t, capped_sum (term_nodes (term_instance (given values) t)) (argument_nodes (argument_instances (given values) rest)), capped_max (term_depth (term_instance (given values) t)) (argument_depth (argument_instances (given values) rest)), among values rest)
 
 -- the size of an instance's arguments
 pub measured_args : (values : List Tree) (sizes : List Size) (args : Trees) → sizes ≡ map size_of values → size_among sizes args ≡ size_of_all (argument_instances (given values) args)
@@ -91,25 +82,15 @@ bounded_at most (t ∷ values) (suc v) w some all = bounded_at most values v w s
 mutual
   bounded : (most : ℕ) (values : List Tree) → 1 ≤ most → AllByRecursion (IsBelow most) values → (t : Tree) → term_nodes (term_instance (given values) t) ≤ term_nodes t * most
   bounded most values some all (variable v) = let at = bounded_at most values v v some all in omega arith
-  bounded most values some all (node c args) =
-      let rest = bounded_all most values some all args in
-      let split = add-mul 1 (argument_nodes args) most in
-      omega (arith, split)
+  bounded most values some all (node c args) = grind (arith, bounded_all most values some all args, add-mul 1 (argument_nodes args) most)
 
   bounded_all : (most : ℕ) (values : List Tree) → 1 ≤ most → AllByRecursion (IsBelow most) values → (args : Trees) → argument_nodes (argument_instances (given values) args) ≤ argument_nodes args * most
   bounded_all most values some all none = omega arith
-  bounded_all most values some all (more t rest) =
-      let first = bounded most values some all t in
-      let others = bounded_all most values some all rest in
-      let split = add-mul (term_nodes t) (argument_nodes rest) most in
-      omega (arith, split)
+  bounded_all most values some all (more t rest) = grind (arith, bounded most values some all t, add-mul (term_nodes t) (argument_nodes rest) most, bounded_all most values some all rest)
 
 -- an instance has at most so many times the nodes of its pattern
 pub instance_bounded : (most : ℕ) (values : List Tree) → 1 ≤ most → AllByRecursion (IsBelow most) values → (a : AtomTree) → atom_nodes (full_instance values a) ≤ atom_nodes a * most
-instance_bounded most values some all a =
-    let rest = bounded_all most values some all a.args in
-    let split = add-mul 1 (argument_nodes a.args) most in
-    omega (arith, split)
+instance_bounded most values some all a = grind (arith, bounded_all, add-mul, a.args)
 
 module _ (values : List Tree) (sizes : List Size) (a : AtomTree) (same : sizes ≡ map size_of values) where
   -- the nodes and the levels of an instance
@@ -121,8 +102,4 @@ module _ (values : List Tree) (sizes : List Size) (a : AtomTree) (same : sizes �
 
 -- one value more
 pub next_size : (values : List Tree) (n : ℕ) (t : Tree) (sizes : List Size) → sizes ≡ map size_of (take n values) → slice_get values n ≡ Some t → sizes ++ size_by [] t ∷ [] ≡ map size_of (take (n + 1) values)
-next_size values n t sizes so_far is =
-    ap (λ (other : List Size). other ++ size_by [] t ∷ []) so_far
-    ∙ ap (λ (size : Size). map size_of (take n values) ++ size ∷ []) (measured_value t)
-    ∙ sym (map_last size_of (take n values) t)
-    ∙ ap (map size_of) (sym (take_next values n t is))
+next_size values n t sizes so_far is = grind (arith, measured_value t, map_last size_of (take n values) t, take_next values n t is)

@@ -1,5 +1,5 @@
 -- The copies and the nodes of the state after a step, from what comes and what goes.
-use Rattle.std.proofs.Common.{◌≡◌, ◌⊎◌, inl, inr, ⊎_elim, ℕ, ◌^◌, ◌+◌, ◌<◌, ◌≤◌, List, [], ◌∷◌, ◌++◌, length, take, Some, sym, ap, arith}
+use Rattle.std.proofs.Common.{◌≡◌, ◌⊎◌, inl, inr, ⊎_elim, ℕ, ◌^◌, ◌+◌, ◌<◌, ◌≤◌, List, length, take, Some, sym, ap, arith}
 use Rattle.std.specs.Prelude.{slice_get, sum_by}
 use Rattle.std.specs.List.{AllByRecursion}
 use Rattle.std.proofs.lemmas.List.Sums.{sum_by_push}
@@ -17,10 +17,7 @@ use Rattle.cep_step.proofs.SizesOf.{depth_of_atom}
 
 -- one atom more
 pub nodes_next : (atoms : List AtomTree) (n : ℕ) (a : AtomTree) (sum nodes : ℕ) → sum ≡ sum_by atom_nodes (take n atoms) → slice_get atoms n ≡ Some a → nodes ≡ atom_nodes a → sum + nodes ≡ sum_by atom_nodes (take (n + 1) atoms)
-nodes_next atoms n a sum nodes so_far is same =
-    let next : sum_by atom_nodes (take (n + 1) atoms) ≡ sum_by atom_nodes (take n atoms ++ a ∷ []) = ap (sum_by atom_nodes) (take_next atoms n a is) in
-    let last = sum_by_push atom_nodes (take n atoms) a in
-    omega arith
+nodes_next atoms n a sum nodes so_far is same = grind (arith, take_next atoms n a is, sum_by_push atom_nodes (take n atoms) a)
 
 -- what is counted is fit where the number is
 fit_by_size : (a : AtomTree) (size : Size) → size.nodes ≡ capped (atom_nodes a) → size.depth ≡ capped (atom_depth a) → (size.nodes ≤ MOST_NODES) × (size.depth ≤ MOST_DEPTH) → IsFit a
@@ -28,17 +25,11 @@ fit_by_size a size nodes depth fit = let few = fit.0 in let low = fit.1 in recor
 
 -- one atom more is fit
 pub fit_next : (atoms : List AtomTree) (n : ℕ) (a : AtomTree) (size : Size) → AllByRecursion IsFit (take n atoms) → slice_get atoms n ≡ Some a → size.nodes ≡ capped (atom_nodes a) → size.depth ≡ capped (atom_depth a) → (size.nodes ≤ MOST_NODES) × (size.depth ≤ MOST_DEPTH) → AllByRecursion IsFit (take (n + 1) atoms)
-fit_next atoms n a size so_far is nodes depth fit =
-    rw (take_next atoms n a is) (both_all IsFit (take n atoms) (a ∷ []) so_far (fit_by_size a size nodes depth fit, tt))
+fit_next atoms n a size so_far is nodes depth fit = grind (arith, take_next atoms n a is, both_all, fit_by_size a size nodes depth fit)
 
 -- a size that is too large is that of an atom that is
 pub beyond : (a : AtomTree) (size : Size) (number : ℕ) → size.nodes ≡ capped (atom_nodes a) → size.depth ≡ capped (atom_depth a) → ((MOST_NODES < size.nodes) × (number ≡ size.nodes)) ⊎ ((size.nodes ≤ MOST_NODES) × (MOST_DEPTH < size.depth) × (number ≡ size.depth)) → IsBeyond a number
-beyond a size number nodes depth over =
-    let low = depth_of_atom a in
-    ⊎_elim
-    (λ many. let more' = many.0 in let is = many.1 in inl ((omega arith), (omega arith)))
-    (λ high. let few = high.0 in let more' = high.1 in let is = high.2 in inr ((omega arith), (omega arith), (omega arith)))
-    over
+beyond a size number nodes depth over = grind (arith, depth_of_atom)
 
 -- what is beyond a limit is not fit
 not_fit : (a : AtomTree) (number : ℕ) → IsBeyond a number → ¬ IsFit a
@@ -52,13 +43,7 @@ too_large : (a : AtomTree) (number : ℕ) → atom_nodes a < 2 ^ 64 → IsBeyond
 too_large a number few over = ⊎_elim (λ many. let is = many.1 in inl (many.0, omega arith)) (λ high. inr high) over
 
 pub exact : (atoms : List AtomTree) (number : ℕ) → AllByRecursion (λ a. atom_nodes a < 2 ^ 64) atoms → IsFirstUnfit IsBeyond atoms number → IsFirstUnfit IsTooLarge atoms number
-exact atoms number all first = record {
-  place = first.place;
-  atom = first.atom;
-  there = first.there;
-  before = first.before;
-  over = too_large first.atom number (holds_at (λ a. atom_nodes a < 2 ^ 64) atoms first.place first.atom all first.there) first.over;
-}
+exact atoms number all first = grind (arith, too_large, holds_at, first.place, first.atom, first.there, first.before, first.over)
 
 module _ (laws : BagLaws) (state : Multiset) (taken gains : List AtomTree) (can : CanWeigh state taken gains) where
   taken_bag : IsBag (gathered taken)
