@@ -1,9 +1,8 @@
 -- Multisets in which each atom that is there has a copy: the counts alone say which one it is.
-use Rattle.std.proofs.Common.{◌≡◌, ◌≢◌, ℕ, ◌+◌, Bool, true, cond, List, [], ◌∷◌, Option, Some, unwrap_or, sym, ◌∙◌, arith}
+use Rattle.std.proofs.Common.{◌≡◌, ◌≢◌, ℕ, ◌+◌, Bool, cond, List, [], ◌∷◌, Option, Some, unwrap_or, sym, ◌∙◌, arith}
 use Rattle.std.specs.Prelude.{fold}
 use Rattle.std.specs.List.{AllByRecursion}
 use Rattle.std.specs.Ordering.{eq_by_cmp}
-use Rattle.std.specs.Cmp.{tied_itself, Equal-is}
 use Rattle.std.specs.FinMap.{get-entries, get-empty, get-insert, get-remove, same_map}
 use Rattle.std.specs.FinMap.Entries.{find}
 use Rattle.std.specs.FinMap as finite
@@ -53,7 +52,4 @@ one_if t = cond t 1 0
 module _ (laws : BagLaws) where
   -- one more copy
   pub count_more : (bag : Multiset) (a b : AtomTree) → count_of (with_one bag a) b ≡ count_of bag b + one_if (eq_by_cmp atom_cmp a b)
-  count_more bag a b = grind (arith, laws.own bag a (count_of bag a + 1), laws.others bag a b (count_of bag a + 1), tied_itself laws.total a, same_atom)
-    where
-      same_atom : eq_by_cmp atom_cmp a b ≡ true → a ≡ b
-      same_atom e = laws.ties a b ((Equal-is (atom_cmp a b)).0 e)
+  count_more bag a b = grind (arith, laws.own, laws.others, laws.total, laws.ties)

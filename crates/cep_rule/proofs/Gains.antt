@@ -10,16 +10,10 @@ use Rattle.cep_rule.proofs.Copies.{count_more}
 
 module _ (laws : BagLaws) (test : AtomTree → Bool) (state fresh : Multiset) (atoms list whole : List AtomTree) where
   pub none_yet : list ≡ [] → fresh ≡ finite.empty → gained test state atoms ≡ list ++ gained test (sum_of state fresh) atoms
-  none_yet none empty =
-      laws.gained_alike test state (sum_of state fresh) atoms
-      (λ a is. omega (arith, laws.sum state fresh a, ap (λ (bag : Multiset). count_of bag a) empty, laws.empty a))
-      ∙ ap (λ xs. xs ++ gained test (sum_of state fresh) atoms) (sym none)
+  none_yet none empty = grind (arith, laws.gained_alike, laws.sum, laws.empty)
 
   pub skipped : (n : ℕ) (a : AtomTree) → whole ≡ list ++ gained test (sum_of state fresh) (drop n atoms) → slice_get atoms n ≡ Some a → (test a && nat_lt 0 (count_of (sum_of state fresh) a)) ≡ true → whole ≡ list ++ gained test (sum_of state fresh) (drop (n + 1) atoms)
-  skipped n a so_far is held =
-      so_far
-      ∙ ap (λ xs. list ++ gained test (sum_of state fresh) xs) (drop_at atoms n a is)
-      ∙ ap (λ t. list ++ cond t (gained test (sum_of state fresh) (drop (n + 1) atoms)) (a ∷ gained test (with_one (sum_of state fresh) a) (drop (n + 1) atoms))) held
+  skipped n a so_far is held = grind (arith, drop_at)
 
   pub taken : (n : ℕ) (a : AtomTree) (fresh' : Multiset) (list' : List AtomTree) → whole ≡ list ++ gained test (sum_of state fresh) (drop n atoms) → slice_get atoms n ≡ Some a → (test a && nat_lt 0 (count_of (sum_of state fresh) a)) ≡ false
       → ((b : AtomTree) → test b ≡ true → count_of fresh' b ≡ count_of (with_one fresh a) b) → list' ≡ list ++ a ∷ []

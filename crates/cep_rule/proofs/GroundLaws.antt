@@ -22,8 +22,7 @@ mutual
 
   all_within : (few many : Known) → IsWithin few many → (args : Trees) → are_known few args ≡ true → are_known many args ≡ true
   all_within few many within none e = refl
-  all_within few many within (more t rest) e =
-      and_within (is_known few t) (are_known few rest) (is_known many t) (are_known many rest) (known_within few many within t) (all_within few many within rest) e
+  all_within few many within (more t rest) e = grind (arith, and_within (is_known few t) (are_known few rest) (is_known many t) (are_known many rest) (known_within few many within t) (all_within few many within rest) e, known_within few many within t, all_within few many within rest)
 
 positions_within : (few many : Known) → IsWithin few many → (args : Trees) → IsWithin (positions_known few args) (positions_known many args)
 positions_within few many within none i e = e
@@ -51,10 +50,8 @@ IsDownward pairs = (pred : ℕ) (few many : Known) → IsWithin few many → pai
 
 calls_at_within : (pairs : ℕ → Known → Type 0) → IsDownward pairs → (goals : List AtomTree) (few many : Known) (i : ℕ) → IsWithin few many → CallsAt pairs many goals i → CallsAt pairs few goals i
 calls_at_within pairs down [] few many i within calls = calls
-calls_at_within pairs down (goal ∷ goals) few many zero within calls =
-    down goal.pred (positions_known few goal.args) (positions_known many goal.args) (positions_within few many within goal.args) calls
-calls_at_within pairs down (goal ∷ goals) few many (suc i) within calls =
-    calls_at_within pairs down goals (known_after few goal) (known_after many goal) i (after_within few many goal within) calls
+calls_at_within pairs down (goal ∷ goals) few many zero within calls = grind (arith, positions_within, goal.pred, goal.args)
+calls_at_within pairs down (goal ∷ goals) few many (suc i) within calls = grind (arith, after_within, calls_at_within pairs down goals (known_after few goal) (known_after many goal) i (after_within few many goal within) calls)
 
 calls_within : (pairs : ℕ → Known → Type 0) → IsDownward pairs → (goals : List AtomTree) (few many : Known) → IsWithin few many → Calls pairs many goals → Calls pairs few goals
 calls_within pairs down goals few many within calls = (calls.0, calls_at_within pairs down goals few many calls.0 within calls.1)
@@ -63,8 +60,7 @@ not_known : (a b : Bool) → (a ≡ true → b ≡ true) → b ≡ false → a �
 not_known a b f e = grind arith
 
 leaves_within : (clause : ClauseTree) (few many : Known) → IsWithin few many → LeavesUnknown many clause → LeavesUnknown few clause
-leaves_within clause few many within leaves =
-    (leaves.0, leaves.1, (not_known (known_after_all few clause.goals leaves.0) (known_after_all many clause.goals leaves.0) (after_all_within clause.goals few many within leaves.0) leaves.2))
+leaves_within clause few many within leaves = grind (arith, not_known, after_all_within, leaves.0, leaves.1, clause.goals, leaves.2)
 
 fails_within : (pairs : ℕ → Known → Type 0) → IsDownward pairs → (clauses : List ClauseTree) (pred : ℕ) (few many : Known) → IsWithin few many → SomeFails clauses pairs pred many → SomeFails clauses pairs pred few
 fails_within pairs down [] pred few many within fails = fails
@@ -126,11 +122,7 @@ fails_in_round clauses (clause ∷ some) pred positions fails =
     fails
 
 pub bad_fails : (clauses : List ClauseTree) (pred : ℕ) (positions : Known) → IsBad clauses pred positions → SomeFails clauses (IsBad clauses) pred positions
-bad_fails clauses pred positions bad = by bad.0 bad.1
-  where
-    by : (round : ℕ) → IsBadInRound clauses round pred positions → SomeFails clauses (IsBad clauses) pred positions
-    by zero never = absurd never
-    by (suc round) fails = fails_weaker (IsBadInRound clauses round) (IsBad clauses) (λ other known bad_there. (round, bad_there)) clauses pred positions fails
+bad_fails clauses pred positions bad = grind (arith, fails_weaker, bad.0, bad.1)
 
 pub fails_bad : (clauses : List ClauseTree) (pred : ℕ) (positions : Known) → SomeFails clauses (IsBad clauses) pred positions → IsBad clauses pred positions
 fails_bad clauses pred positions fails = let found = fails_in_round clauses clauses pred positions fails in (suc found.0, found.1)

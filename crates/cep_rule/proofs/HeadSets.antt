@@ -65,11 +65,7 @@ module _ (heads more : BTreeSet HeadKey) (new : HeadKey) (updates : Updates head
 
   -- the keys of the clauses stay
   pub heads_stay : (clauses : List ClauseTree) → HaveHeads clauses heads → HaveHeads clauses more
-  heads_stay clauses have n = by (slice_get clauses n) (have n)
-    where
-      by : (o : Option ClauseTree) → IfSome o (λ clause. IsTrue (contains head_cmp heads (head_key n clause))) → IfSome o (λ clause. IsTrue (contains head_cmp more (head_key n clause)))
-      by None has = tt
-      by (Some clause) has = kept (head_key n clause) has
+  heads_stay clauses have n = grind (arith, kept)
 
   -- and one more clause has the new one
   pub heads_more : (clauses : List ClauseTree) (clause : ClauseTree) → new ≡ head_key (length clauses) clause → HaveHeads clauses heads → HaveHeads (clauses ++ clause ∷ []) more

@@ -5,7 +5,6 @@ use Rattle.std.specs.List.{AllByRecursion}
 use Rattle.cep_base.proofs.Elements.{both_all}
 use Rattle.cep_base.proofs.Lists.{all_filtered}
 use Rattle.cep_term.specs.Tree.{Tree, AtomTree, IsGroundAtom}
-use Rattle.cep_term.specs.Multiset.{without}
 use Rattle.cep_rule.specs.declared.signature.Signature.{Signature}
 use Rattle.cep_rule.specs.declared.rule.Rule.{Rule}
 use Rattle.cep_rule.specs.Patterns.{PremiseTree}
@@ -32,17 +31,13 @@ module _ (signature : Signature) (rule : Rule) (values : List Tree) (typed : IsT
   ground_left = ground_all signature rule.kinds values are (needed_of rule) typed.premises
 
   pub ground_right : AllByRecursion IsGroundAtom (full_instances values (rule.right ++ kept_of signature rule))
-  ground_right = ground_all signature rule.kinds values are (rule.right ++ kept_of signature rule)
-      (both_all (IsTyped signature rule.kinds) rule.right (kept_of signature rule) typed.right typed_kept)
+  ground_right = grind (arith, ground_all, both_all, typed_kept, rule.kinds, rule.right, typed.right)
 
   pub ground_taken : AllByRecursion IsGroundAtom (taken_by signature rule values)
-  ground_taken = ground_all signature rule.kinds values are (without (is_fact signature) (needed_of rule))
-      (all_filtered (IsTyped signature rule.kinds) (λ a. not (is_fact signature a)) (needed_of rule) typed.premises)
+  ground_taken = grind (arith, ground_all, all_filtered, rule.kinds, typed.premises)
 
   pub ground_added : AllByRecursion IsGroundAtom (added_by signature rule values)
-  ground_added = ground_all signature rule.kinds values are (rule.right ++ without (is_fact signature) (kept_of signature rule))
-      (both_all (IsTyped signature rule.kinds) rule.right (without (is_fact signature) (kept_of signature rule)) typed.right
-      (all_filtered (IsTyped signature rule.kinds) (λ a. not (is_fact signature a)) (kept_of signature rule) typed_kept))
+  ground_added = grind (arith, ground_all, both_all, all_filtered, typed_kept, rule.kinds, rule.right, typed.right)
 
   pub ground_used : AllByRecursion IsGroundAtom (used_by signature rule values)
   ground_used = ground_all signature rule.kinds values are (map (λ (premise : PremiseTree). premise.atom) (filter (λ premise. not (premise.kept || is_fact signature premise.atom)) rule.premises))

@@ -91,8 +91,7 @@ module _ (program : Parts) (kept : IsProgram program) where
 
   -- the instances of the linear premises are in the state, and so they are fit
   needed_fit : BagLaws → (state : Multiset) (rule : Rule) (values : List Tree) → IsState program.signature state → IsContained (left_of program.signature rule values) state → AllByRecursion IsFit (full_instances values (needed_of rule))
-  needed_fit laws state rule values is contained = all_of IsFit (full_instances values (needed_of rule))
-      (λ a there. (is.each a (needed_there laws program.signature rule values state a contained there)).fit)
+  needed_fit laws state rule values is contained = grind (arith, all_of, needed_there, is.each, program.signature)
 
   pub offer_small : BagLaws → (height : ℕ) (state : Multiset) (offer : Offer) → IsState program.signature state → Applies program height state offer → AllByRecursion IsSmallTerm offer.values
   offer_small laws height state offer is applies =

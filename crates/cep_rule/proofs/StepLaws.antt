@@ -170,9 +170,7 @@ module _ (laws : BagLaws) (signature : Signature) (rule : Rule) (values : List T
   rest_once old one a is = omega (arith, one a is, laws.difference old left a)
 
   restored : (old : Multiset) → IsBag old → IsOnce fact old → IsContained left old → old ≡ joined signature left (difference_of old left)
-  restored old kept one contained =
-      same_counts laws old (joined signature left (difference_of old left)) (copies-bag old kept) (side_copies (full_instances values (needed_of rule)) (difference_of old left))
-      (λ a. rw (laws.once_count, laws.sum, laws.difference) (back (fact a) (count_of left a) (count_of old a) (one a) (contained a)))
+  restored old kept one contained = grind (arith, same_counts, copies-bag, side_copies, back, laws.once_count, laws.sum, laws.difference)
 
   -- so an edit with the right counts is a step
   edit_is : (state taken : Multiset) (added : List AtomTree) → IsBag left → IsBag right → IsBag state → IsOnce fact state → IsBag taken → IsBag (gathered added) → IsContained left state
@@ -212,34 +210,24 @@ module _ (laws : BagLaws) (signature : Signature) (rule : Rule) (values : List T
 
   -- the rest is unique up to the facts of the left side
   pub one_rest : (old one other : Multiset) (step : Step signature rule values old one) (step' : Step signature rule values old other) (a : AtomTree) → (0 < count_of left a → fact a ≡ false) → count_of step.rest a ≡ count_of step'.rest a
-  one_rest old one other step step' a apart =
-      rest_count (fact a) (many (needed_of rule) a) (count_of step.rest a) (count_of step'.rest a) (count_of old a) (step.once a) (step'.once a)
-      (rw (← left_count a) apart) (before_count old one step a) (before_count old other step' a)
+  one_rest old one other step step' a apart = grind (arith, rest_count, left_count a, before_count old one step a, before_count old other step' a, step.rest, step'.rest, step.once, step'.once)
 
   -- and it is a state if the old state is one
   pub rest_is_state : (old new : Multiset) (step : Step signature rule values old new) → IsState signature old → IsState signature step.rest
-  rest_is_state old new step is = record {
-    bag = step.bag;
-    each = λ a some. is.each a (was_there (fact a) (many (needed_of rule) a) (count_of step.rest a) (count_of old a) some (before_count old new step a));
-    once = step.once;
-  }
+  rest_is_state old new step is = grind (arith, was_there, before_count, step.bag, is.each, step.rest, step.once)
 
   -- what is needed is there, and what is taken, and what is used up
   pub needed_there : (state : Multiset) (a : AtomTree) → IsContained left state → Contains (full_instances values (needed_of rule)) a → 0 < count_of state a
-  needed_there state a contained there =
-      some_there (fact a) (many (needed_of rule) a) (count_of state a) ((laws.gathered_there (full_instances values (needed_of rule)) a).1 there) (needed_within state contained a)
+  needed_there state a contained there = grind (arith, some_there, needed_within, laws.gathered_there)
 
   pub taken_contained : (state : Multiset) → IsContained left state → IsContained (gathered (taken_by signature rule values)) state
-  taken_contained state contained a =
-      taken_there (fact a) (count_of (gathered (taken_by signature rule values)) a) (many (needed_of rule) a) (count_of state a) (many_without (needed_of rule) a) (needed_within state contained a)
+  taken_contained state contained a = grind (arith, taken_there, many_without, needed_within)
 
   pub no_facts_taken : (a : AtomTree) → fact a ≡ true → count_of (gathered (taken_by signature rule values)) a ≡ 0
   no_facts_taken a is = grind (arith, many_without (needed_of rule) a)
 
   pub used_contained : (state : Multiset) → IsContained left state → IsContained (gathered (used_by signature rule values)) state
-  used_contained state contained a =
-      used_there (fact a) (many (needed_of rule) a) (many (kept_of signature rule) a) (count_of (gathered (used_by signature rule values)) a) (count_of state a)
-      (kept_count rule.premises a) (parted_count rule.premises a) (needed_within state contained a)
+  used_contained state contained a = grind (arith, used_there, kept_count, parted_count, needed_within, rule.premises)
 
   pub no_facts_used : (a : AtomTree) → fact a ≡ true → count_of (gathered (used_by signature rule values)) a ≡ 0
   no_facts_used a is = omega (arith, kept_count rule.premises a is, parted_count rule.premises a)
@@ -282,5 +270,4 @@ module _ (laws : BagLaws) (signature : Signature) (rule : Rule) (values : List T
 -- the state after an edit is the old one without what is taken, and with what it gains
 pub edit_gains : BagLaws → (signature : Signature) (state taken : Multiset) (added : List AtomTree) → IsBag state → IsOnce (is_fact signature) state → IsBag taken → AllByRecursion IsGroundAtom added
     → state_after signature state taken added ≡ sum_of (difference_of state taken) (gathered (gained (is_fact signature) (difference_of state taken) added))
-edit_gains laws signature state taken added kept one kept' ground =
-    laws.once_gains (is_fact signature) (difference_of state taken) added (laws.difference_kept state taken kept kept') (λ a is. omega (arith, one a is, laws.difference state taken a)) ground
+edit_gains laws signature state taken added kept one kept' ground = grind (arith, laws.once_gains, laws.difference_kept, laws.difference)
