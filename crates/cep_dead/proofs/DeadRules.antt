@@ -29,15 +29,7 @@ use Rattle.cep_dead.proofs.OneWhy.{does_not_pass}
 -- a why by one table is one by another that has the same
 module _ (program : Parts) (table other : Possibility → Type 0) (there : (item : Possibility) → table item → other item) (back : (item : Possibility) → other item → table item) (rule : Rule) where
   same_shut : (place : ℕ) → IsFirstShut table (premises_of rule) place → IsFirstShut other (premises_of rule) place
-  same_shut place is = record {
-    before = is.before;
-    shut = is.shut;
-    rest = is.rest;
-    whole = is.whole;
-    opened = all_weaker (IsOpen table) (IsOpen other) is.before (open_later table other there) is.opened;
-    is_shut = λ opened. is.is_shut (open_later other table back is.shut opened);
-    placed = is.placed;
-  }
+  same_shut place is = grind (arith, all_weaker, open_later, is.before, is.shut, is.rest, is.whole, is.opened, is.is_shut, is.placed)
 
   same_empty : (v : ℕ) → IsFirstEmpty program.signature table rule.kinds (premises_of rule) v → IsFirstEmpty program.signature other rule.kinds (premises_of rule) v
   same_empty v is = record {
@@ -106,11 +98,7 @@ module _ (program : Parts) (has : Possibility → Bool) (last : IsLastTable prog
     }
 
   pub all_found : (i : ℕ) (deads : List DeadRule) → length program.rules ≤ i → AreDeadsBelow program i deads → AreDeads program deads
-  all_found i deads done are = record {
-    in_order = are.in_order;
-    each = are.each;
-    all = λ number rule at dead. let low = within_got program.rules number rule at in are.all number rule (omega arith) at dead;
-  }
+  all_found i deads done are = grind (arith, within_got, are.in_order, are.each, program.rules, are.all)
 
 -- a rule with a why by all that is in some round is dead
 why_dead : (program : Parts) (rule : Rule) (why : DeadWhy) → IsWhy program (IsInSomeRound program) rule why → IsDead program rule

@@ -1,6 +1,6 @@
 -- The tests of what a table holds decide the definitions.
-use Rattle.std.proofs.Common.{◌≡◌, ◌⊎◌, ⊎_elim, inl, inr, ℕ, zero, suc, ◌+◌, ◌==◌, Bool, true, false, not, ◌&&◌, ◌||◌, List, [], ◌∷◌, Contains, refl, sym, ap, subst, ◌∙◌, eqb-true, eq-eqb, zero-add, if◌then◌else◌, arith}
-use Rattle.std.specs.Prelude.{Option, Some, None, slice_get, option_map, unwrap_or, IsSomeAnd}
+use Rattle.std.proofs.Common.{◌≡◌, ◌⊎◌, ⊎_elim, inl, inr, ℕ, zero, suc, ◌+◌, ◌==◌, Bool, true, false, not, ◌&&◌, ◌||◌, List, [], ◌∷◌, Contains, refl, sym, ap, subst, ◌∙◌, eqb-true, eq-eqb, zero-add, arith}
+use Rattle.std.specs.Prelude.{Option, Some, None, option_map, unwrap_or, IsSomeAnd}
 use Rattle.std.proofs.lemmas.Bool.{false≢true}
 use Rattle.cep_base.proofs.Lists.{none_some, some_same}
 use Rattle.cep_base.proofs.Elements.{contains_first, contains_behind, contains_cases, contains_none}
@@ -79,10 +79,8 @@ module _ (has : Possibility → Bool) where
 
   args_true : (p i : ℕ) (args : Trees) → are_args_open has p i args ≡ true → (j c : ℕ) (sub : Trees) → nth_argument args j ≡ Some (node c sub) → has (of_con p (i + j) c) ≡ true
   args_true p i none e j c sub at = none_some (node c sub) at
-  args_true p i (more t rest) e zero c sub at =
-      rw (this_place i) (subst (λ u. is_term_open has p i u ≡ true) (some_same t (node c sub) at) (first_of (is_term_open has p i t) (are_args_open has p (i + 1) rest) e))
-  args_true p i (more t rest) e (suc j) c sub at =
-      rw (← next_place i j) (args_true p (i + 1) rest (second_of (is_term_open has p i t) (are_args_open has p (i + 1) rest) e) j c sub at)
+  args_true p i (more t rest) e zero c sub at = grind (arith, this_place, some_same, first_of)
+  args_true p i (more t rest) e (suc j) c sub at = grind (arith, next_place, second_of, args_true p (i + 1) rest (second_of (is_term_open has p i t) (are_args_open has p (i + 1) rest) e) j c sub)
 
   args_are : (p i : ℕ) (args : Trees) → ((j c : ℕ) (sub : Trees) → nth_argument args j ≡ Some (node c sub) → has (of_con p (i + j) c) ≡ true) → are_args_open has p i args ≡ true
   args_are p i none each = refl
@@ -103,8 +101,7 @@ module _ (has : Possibility → Bool) where
 
   kept_args_true : (p i : ℕ) (args : Trees) (v c : ℕ) → is_kept_among has p i args v c ≡ true → (j : ℕ) → nth_argument args j ≡ Some (variable v) → has (of_con p (i + j) c) ≡ true
   kept_args_true p i none v c e j at = none_some (variable v) at
-  kept_args_true p i (more t rest) v c e zero at =
-      rw (this_place i) (from_not_or (is_variable v t) (has (of_con p i c)) (first_of (not (is_variable v t) || has (of_con p i c)) (is_kept_among has p (i + 1) rest v c) e) (var_is v t (some_same t (variable v) at)))
+  kept_args_true p i (more t rest) v c e zero at = grind (arith, this_place, from_not_or, first_of, var_is, some_same)
   kept_args_true p i (more t rest) v c e (suc j) at =
       rw (← next_place i j) (kept_args_true p (i + 1) rest v c (second_of (not (is_variable v t) || has (of_con p i c)) (is_kept_among has p (i + 1) rest v c) e) j at)
 
@@ -146,19 +143,10 @@ module _ (has : Possibility → Bool) where
     of_sort_is (Some sort) (Some con) is = eq-eqb con.sort sort (sym (some_same sort con.sort is))
 
     pub begin_true : can_begin signature has kinds premises v c ≡ true → CanBegin signature table kinds premises v c
-    begin_true e = elim (stands_alone premises v) as (λ b. stands_alone premises v ≡ b → (if b then is_kept has premises v c else sorted (slice_get kinds v)) ≡ true → CanBegin signature table kinds premises v c) [
-      | true ↦ λ alone kept. record { at_each = kept_true premises v c kept; typed = λ not_alone. absurd (not_alone (alone_true premises v alone)) }
-      | false ↦ λ not_alone of. record {
-        at_each = λ a i there at. absurd (false≢true (sym not_alone ∙ alone_is premises v (a, there, (i, at))));
-        typed = λ _. of_sort_true (slice_get kinds v) (slice_get signature.cons c) of;
-      }
-    ] refl e
+    begin_true e = grind (arith, kept_true, alone_true, alone_is, of_sort_true, signature.cons)
 
     pub begin_is : CanBegin signature table kinds premises v c → can_begin signature has kinds premises v c ≡ true
-    begin_is is = elim (stands_alone premises v) as (λ b. stands_alone premises v ≡ b → (if b then is_kept has premises v c else sorted (slice_get kinds v)) ≡ true) [
-      | true ↦ λ alone. kept_are premises v c is.at_each
-      | false ↦ λ not_alone. of_sort_is (slice_get kinds v) (slice_get signature.cons c) (is.typed (λ alone. false≢true (sym not_alone ∙ alone_is premises v alone)))
-    ] refl
+    begin_is is = grind (arith, kept_are, of_sort_is, alone_is, is.at_each, signature.cons, is.typed)
 
 -- what arguments add, from a position on
 module _ (sets : ℕ → ℕ → Bool) where
@@ -183,11 +171,8 @@ module _ (sets : ℕ → ℕ → Bool) where
 
   added_is : (p i : ℕ) (args : Trees) (k c j : ℕ) (t : Tree) → nth_argument args j ≡ Some t → k ≡ i + j → is_begun sets t c ≡ true → is_added_among sets p i args (of_con p k c) ≡ true
   added_is p i none k c j t at here begun = none_some t at
-  added_is p i (more u rest) k c zero t at here begun =
-      either_first (((p == p) && (k == i)) && is_begun sets u c) (is_added_among sets p (i + 1) rest (of_con p k c))
-      (both ((p == p) && (k == i)) (is_begun sets u c) (both (p == p) (k == i) (eq-eqb p p refl) (eq-eqb k i (here ∙ this_place i))) (subst (λ x. is_begun sets x c ≡ true) (sym (some_same u t at)) begun))
-  added_is p i (more u rest) k c (suc j) t at here begun =
-      either_second (((p == p) && (k == i)) && is_begun sets u c) (is_added_among sets p (i + 1) rest (of_con p k c)) (added_is p (i + 1) rest k c j t at (here ∙ sym (next_place i j)) begun)
+  added_is p i (more u rest) k c zero t at here begun = grind (arith, either_first, both, eq-eqb, this_place, some_same)
+  added_is p i (more u rest) k c (suc j) t at here begun = grind (arith, either_second, next_place, added_is p (i + 1) rest k c j t)
 
   no_pred : (p i : ℕ) (args : Trees) (q : ℕ) → is_added_among sets p i args (of_pred q) ≡ true → ⊥
   no_pred p i none q e = false≢true e

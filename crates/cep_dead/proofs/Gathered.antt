@@ -18,8 +18,7 @@ use Rattle.cep_dead.specs.Tables.{Possibility}
 use Rattle.cep_dead.specs.Held.{words_at, is_in_set, has_all, is_among, stands_alone, is_kept_among, is_kept, is_of_sort, can_begin}
 
 pub pushed : {X A : Type 0} (at : X → A) (old : List A) (now : List X) (list : List A) (i : ℕ) (x : X) → slice_get list i ≡ Some (at x) → map at now ≡ old ++ take i list → map at (now ++ x ∷ []) ≡ old ++ take (i + 1) list
-pushed at old now list i x is e =
-    map_last at now x ∙ ap (λ xs. xs ++ at x ∷ []) e ∙ append_assoc old (take i list) (at x ∷ []) ∙ ap (λ xs. old ++ xs) (sym (take_next list i (at x) is))
+pushed at old now list i x is e = grind (arith, map_last, append_assoc, take_next)
 
 pub all_taken : {A : Type 0} (list : List A) (i : ℕ) → length list ≤ i → take i list ≡ list
 all_taken [] zero within = refl
@@ -61,10 +60,7 @@ beyond_none (x ∷ xs) zero within = absurd (omega arith)
 beyond_none (x ∷ xs) (suc k) within = beyond_none xs k (omega arith)
 
 pub sort_done : (cons : List Con) (sort c : ℕ) (set : ℕ → Bool) → length cons ≤ c → ((m : ℕ) → set m ≡ (nat_lt m c && is_of_sort cons sort m)) → (m : ℕ) → set m ≡ is_of_sort cons sort m
-sort_done cons sort c set done is m = is m ∙ (elim (nat_lt m c) as (λ b. nat_lt m c ≡ b → (b && is_of_sort cons sort m) ≡ is_of_sort cons sort m) [
-  | true ↦ λ _. refl
-  | false ↦ λ e. sym (ap (λ con. unwrap_or (option_map (λ (con : Con). con.sort == sort) con) false) (beyond_none cons m (let later = ltb-false m c e in omega arith)))
-] refl)
+sort_done cons sort c set done is m = grind (arith, beyond_none, ltb-false)
 
 -- one set more
 pub set_kept : (sets : List Bits) (set : Bits) (w : ℕ) → w < length sets → words_at (sets ++ set ∷ []) w ≡ words_at sets w
@@ -116,16 +112,4 @@ begin_typed signature has kinds atoms v (Ok set) alone less is = λ c. rw (← a
 
 -- one set more
 pub sets_next : (signature : Signature) (has : Possibility → Bool) (kinds : List ℕ) (atoms : List AtomTree) (sets : List Bits) (set : Bits) (v : ℕ) → (length sets ≡ v) × ((w c : ℕ) → w < v → is_in_set sets w c ≡ can_begin signature has kinds atoms w c) → ((c : ℕ) → has_bit set.words.items c ≡ can_begin signature has kinds atoms v c) → (length (sets ++ set ∷ []) ≡ v + 1) × ((w c : ℕ) → w < v + 1 → is_in_set (sets ++ set ∷ []) w c ≡ can_begin signature has kinds atoms w c)
-sets_next signature has kinds atoms sets set v are is = (
-  omega (arith, are.0, length-append sets (set ∷ [])),
-  (λ w c less. elim (w == v) as (λ b. (w == v) ≡ b → is_in_set (sets ++ set ∷ []) w c ≡ can_begin signature has kinds atoms w c) [
-    | true ↦ λ e. (
-        let here : w ≡ v = eqb-true w v e in
-        let last : w ≡ length sets = here ∙ sym are.0 in
-        ap (λ k. is_in_set (sets ++ set ∷ []) k c) last ∙ ap (λ words. has_bit words c) (set_last sets set) ∙ is c ∙ ap (λ k. can_begin signature has kinds atoms k c) (sym here))
-    | false ↦ λ e. (
-        let other = eqb-false w v e in
-        let before : w < v = omega arith in
-        ap (λ words. has_bit words c) (set_kept sets set w (omega (arith, are.0))) ∙ are.1 w c before)
-  ] refl),
-)
+sets_next signature has kinds atoms sets set v are is = grind (arith, length-append, eqb-true, set_last, eqb-false, set_kept, are.0, are.1)

@@ -6,8 +6,8 @@ use Rattle.cep_term.specs.Tree.{AtomTree}
 use Rattle.cep_rule.specs.declared.signature.Signature.{Signature}
 use Rattle.cep_rule.specs.declared.rule.Rule.{Rule}
 use Rattle.cep_rule.specs.declared.parts.Parts.{Parts}
-use Rattle.cep_dead.specs.Tables.{Possibility, of_stage, of_pred, of_con, HasConAt, IsOpen, CanBegin, PremisesPass, AtomAdds}
-use Rattle.cep_dead.specs.Rounds.{premises_of, RulePasses, IsAddedByRule, IsAddedByClause, IsInRound, IsDead}
+use Rattle.cep_dead.specs.Tables.{Possibility, of_stage, of_pred, of_con, IsOpen, CanBegin, PremisesPass, AtomAdds}
+use Rattle.cep_dead.specs.Rounds.{RulePasses, IsAddedByRule, IsAddedByClause, IsInRound, IsDead}
 
 pub open_later : (table later : Possibility → Type 0) → ((item : Possibility) → table item → later item) → (a : AtomTree) → IsOpen table a → IsOpen later a
 open_later table later grows a is = record { pred = grows _ is.pred; cons = λ i c has. grows _ (is.cons i c has) }
@@ -18,8 +18,7 @@ begin_later table later grows signature kinds premises v c begin = record { at_e
 pub adds_later : (table later : Possibility → Type 0) → ((item : Possibility) → table item → later item) → (signature : Signature) (kinds : List ℕ) (premises : List AtomTree) (a : AtomTree) (item : Possibility) → AtomAdds signature table kinds premises a item → AtomAdds signature later kinds premises a item
 adds_later table later grows signature kinds premises a (of_stage k) adds = adds
 adds_later table later grows signature kinds premises a (of_pred p) adds = adds
-adds_later table later grows signature kinds premises a (of_con p i c) adds =
-    (adds.0, ⊎_elim (λ (here : HasConAt a i c). inl here) (λ by. inr (by.0, by.1, begin_later table later grows signature kinds premises by.0 c by.2)) adds.1)
+adds_later table later grows signature kinds premises a (of_con p i c) adds = grind (arith, begin_later, adds.0, adds.1)
 
 pub pass_later : (table later : Possibility → Type 0) → ((item : Possibility) → table item → later item) → (signature : Signature) (kinds : List ℕ) (premises : List AtomTree) → PremisesPass signature table kinds premises → PremisesPass signature later kinds premises
 pass_later table later grows signature kinds premises pass = record {
@@ -57,12 +56,7 @@ module _ (program : Parts) where
   rule_later table later grows rule passes = record { stage = grows _ passes.stage; premises = pass_later table later grows program.signature rule.kinds _ passes.premises }
 
   pub by_rule_later : (table later : Possibility → Type 0) → ((item : Possibility) → table item → later item) → (item : Possibility) → IsAddedByRule program table item → IsAddedByRule program later item
-  by_rule_later table later grows item added = record {
-    rule = added.rule;
-    of_program = added.of_program;
-    passes = rule_later table later grows added.rule added.passes;
-    made = ⊎_elim (λ by. inl (by.0, by.1, adds_later table later grows program.signature added.rule.kinds (premises_of added.rule) by.0 item by.2)) (λ next. inr next) added.made;
-  }
+  by_rule_later table later grows item added = grind (arith, rule_later table later grows added.rule added.passes, adds_later, added.rule, added.of_program, added.passes, program.signature, added.rule.kinds, added.made)
 
   pub by_clause_later : (table later : Possibility → Type 0) → ((item : Possibility) → table item → later item) → (item : Possibility) → IsAddedByClause program table item → IsAddedByClause program later item
   by_clause_later table later grows item added = record {

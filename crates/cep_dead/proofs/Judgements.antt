@@ -1,12 +1,11 @@
 -- Premises that are judged one after another, and variables.
-use Rattle.std.proofs.Common.{◌≡◌, inl, inr, ℕ, zero, suc, ◌+◌, ◌<◌, ◌≤◌, Bool, true, false, List, [], ◌∷◌, ◌++◌, length, take, refl, sym, ap, subst, ◌∙◌, arith}
+use Rattle.std.proofs.Common.{◌≡◌, ℕ, zero, suc, ◌+◌, ◌<◌, ◌≤◌, Bool, true, false, List, [], ◌∷◌, ◌++◌, length, take, refl, sym, ap, subst, ◌∙◌, arith}
 use Rattle.std.specs.Prelude.{Option, Some, None, slice_get, MatchOption, is_some}
 use Rattle.std.specs.List.{AllByRecursion}
 use Rattle.std.proofs.lemmas.Bool.{true≢false, false≢true, cases_lt}
 use Rattle.cep_base.proofs.Lists.{none_some, some_same, take_next, all_pushed, holds_at}
 use Rattle.cep_base.proofs.Options.{some_there, within_got}
 use Rattle.cep_base.proofs.Elements.{all_at}
-use Rattle.cep_base.specs.declared.limits.TheConstants.{MOST_ARGUMENTS}
 use Rattle.cep_term.specs.Tree.{Trees, AtomTree, variable, none, more}
 use Rattle.cep_rule.specs.declared.signature.Con.{Con}
 use Rattle.cep_rule.specs.declared.signature.Signature.{Signature}
@@ -27,11 +26,7 @@ counted cons kinds (sort ∷ sorts) none is = absurd is
 counted cons kinds (sort ∷ sorts) (more t rest) is = let others = counted cons kinds sorts rest is.1 in omega arith
 
 pub typed_short : (signature : Signature) (kinds : List ℕ) (a : AtomTree) → IsSmallSignature signature → IsTyped signature kinds a → HasFewArguments a
-typed_short signature kinds a small typed =
-    let pred = some_there (slice_get signature.preds a.pred) (λ p. HaveSorts signature.cons kinds p.args a.args) typed in
-    let few = holds_at (λ p. length p.args ≤ MOST_ARGUMENTS) signature.preds a.pred pred.0 small.pred_args pred.1 in
-    let many = counted signature.cons kinds pred.0.args a.args pred.2 in
-    omega arith
+typed_short signature kinds a small typed = grind (arith, some_there, holds_at, counted, signature.preds, a.pred, signature.cons, a.args, small.pred_args)
 
 kind_at : (cons : List Con) (kinds sorts : List ℕ) (args : Trees) (i v : ℕ) → HaveSorts cons kinds sorts args → nth_argument args i ≡ Some (variable v) → v < length kinds
 kind_at cons kinds sorts none i v is at = none_some (variable v) at
@@ -40,9 +35,7 @@ kind_at cons kinds (sort ∷ sorts) (more t rest) zero v is at = within_got kind
 kind_at cons kinds (sort ∷ sorts) (more t rest) (suc i) v is at = kind_at cons kinds sorts rest i v is.1 at
 
 pub variable_in_range : (signature : Signature) (kinds : List ℕ) (a : AtomTree) (i v : ℕ) → IsTyped signature kinds a → HasVarAt a i v → v < length kinds
-variable_in_range signature kinds a i v typed at =
-    let pred = some_there (slice_get signature.preds a.pred) (λ p. HaveSorts signature.cons kinds p.args a.args) typed in
-    kind_at signature.cons kinds pred.0.args a.args i v pred.2 at
+variable_in_range signature kinds a i v typed at = grind (arith, some_there, kind_at, signature.preds, a.pred, signature.cons, a.args)
 
 pub alone_in_range : (signature : Signature) (kinds : List ℕ) (premises : List AtomTree) (v : ℕ) → AllByRecursion (IsTyped signature kinds) premises → StandsAlone premises v → v < length kinds
 alone_in_range signature kinds premises v typed alone = variable_in_range signature kinds alone.0 alone.2.0 v (all_at (IsTyped signature kinds) premises alone.0 typed alone.1) alone.2.1
@@ -66,17 +59,7 @@ module _ (has : Possibility → Bool) where
   open_next xs i a r is all told open_now = subst (AllByRecursion (IsOpen table)) (sym (take_next xs i a is)) (all_pushed (IsOpen table) (take i xs) a all (open_true has a (sym told ∙ open_now)))
 
   pub shut_found : (xs : List AtomTree) (i : ℕ) (a : AtomTree) (r : Bool) → slice_get xs i ≡ Some a → AllByRecursion (IsOpen table) (take i xs) → r ≡ is_open has a → r ≡ false → IsFirstShut table xs (i + 1)
-  shut_found xs i a r is all told shut_now =
-      let split = split_at xs i a is in
-      record {
-        before = take i xs;
-        shut = a;
-        rest = split.rest;
-        whole = split.whole;
-        opened = all;
-        is_shut = λ is_open_now. true≢false (sym (open_is has a is_open_now) ∙ sym told ∙ shut_now);
-        placed = omega (arith, split.as_long);
-      }
+  shut_found xs i a r is all told shut_now = grind (arith, split_at xs i a is, open_is)
 
   module _ (signature : Signature) (kinds : List ℕ) (premises : List AtomTree) (sets : List Bits) (are : AreSets sets signature has kinds premises) where
     abbrev NoneEmptyBelow : ℕ → Type 0
@@ -96,10 +79,7 @@ module _ (has : Possibility → Bool) where
     some_at v words less is some = (some.0, begin_true has signature kinds premises v some.0 (sym (told_at v some.0 words less is) ∙ some.1))
 
     pub none_empty_next : (v : ℕ) → NoneEmptyBelow v → (StandsAlone premises v → (c : ℕ) × CanBegin signature table kinds premises v c) → NoneEmptyBelow (v + 1)
-    none_empty_next v below here w less alone = elim (cases_lt w v) [
-      | inl before ↦ below w before alone
-      | inr not_before ↦ (let same : w ≡ v = omega arith in subst (λ u. (c : ℕ) × CanBegin signature table kinds premises u c) (sym same) (here (subst (StandsAlone premises) same alone)))
-    ]
+    none_empty_next v below here w less alone = grind (arith, cases_lt w v)
 
     pub none_empty : (v : ℕ) → length sets ≤ v → AllByRecursion (IsTyped signature kinds) premises → NoneEmptyBelow v → (w : ℕ) → StandsAlone premises w → (c : ℕ) × CanBegin signature table kinds premises w c
     none_empty v done typed below w alone = let low = alone_in_range signature kinds premises w typed alone in below w (omega (arith, are.as_many)) alone

@@ -1,5 +1,5 @@
 -- What moves lead to is in the table of some round, so a dead rule never applies.
-use Rattle.std.proofs.Common.{◌≡◌, ◌⊎◌, ⊎_elim, inl, inr, ℕ, suc, ◌<◌, ◌≤◌, max, Bool, true, false, cond, List, [], ◌∷◌, ◌++◌, map, Contains, Option, Some, None, unwrap_or, slice_get, refl, sym, ap, subst, ◌∙◌, arith}
+use Rattle.std.proofs.Common.{◌≡◌, ◌⊎◌, ⊎_elim, inl, inr, ℕ, suc, ◌<◌, ◌≤◌, max, Bool, List, [], ◌∷◌, ◌++◌, map, Contains, Option, Some, None, unwrap_or, slice_get, refl, sym, ap, subst, ◌∙◌, arith}
 use Rattle.std.specs.Prelude.{filter}
 use Rattle.std.specs.List.{AllByRecursion}
 use Rattle.std.proofs.lemmas.List.{map-append}
@@ -33,18 +33,10 @@ pub record IsInTable (program : Parts) (round : ℕ) (spot : Spot) : Type 0 wher
 -- an element that a filter keeps is one of the list
 kept_needed : (test : PremiseTree → Bool) (premises : List PremiseTree) (a : AtomTree) → Contains (map (λ premise. premise.atom) (filter test premises)) a → Contains (map (λ premise. premise.atom) premises) a
 kept_needed test [] a there = there
-kept_needed test (premise ∷ premises) a there = by (test premise) (kept_needed test premises a) there
-  where
-    by : (t : Bool) → (Contains (map (λ premise. premise.atom) (filter test premises)) a → Contains (map (λ premise. premise.atom) premises) a)
-        → Contains (map (λ premise. premise.atom) (cond t (premise ∷ filter test premises) (filter test premises))) a → Contains (map (λ premise. premise.atom) (premise ∷ premises)) a
-    by true rest there = ⊎_elim (λ (same : premise.atom ≡ a). contains_same premise.atom _ a same) (λ later. contains_behind premise.atom _ a (rest later)) (contains_cases premise.atom _ a there)
-    by false rest there = contains_behind premise.atom _ a (rest there)
+kept_needed test (premise ∷ premises) a there = grind (arith, contains_same, contains_behind, contains_cases, kept_needed test premises a, premise.atom)
 
 pub start_in_table : (program : Parts) → IsInTable program 0 (first_spot program)
-start_in_table program = record {
-  stage = refl;
-  atoms = λ a some. record { pred = (a, some, refl); cons = λ i c has. (a, some, refl, has) };
-}
+start_in_table program = grind arith
 
 module _ (program : Parts) (kept : IsProgram program)
     (needed : (rule : Rule) (values : List Tree) (state : Multiset) (a : AtomTree) → IsContained (left_of program.signature rule values) state → Contains (full_instances values (needed_of rule)) a → 0 < count_of state a)

@@ -6,7 +6,7 @@ use Rattle.cep_base.proofs.Elements.{all_at, all_of, contains_none, contains_fir
 use Rattle.cep_term.specs.Tree.{Tree, Trees, AtomTree, variable, node, none, more}
 use Rattle.cep_rule.specs.declared.rule.Rule.{Rule}
 use Rattle.cep_rule.specs.declared.parts.Parts.{Parts}
-use Rattle.cep_dead.specs.Tables.{Possibility, of_stage, of_pred, of_con, nth_argument, HasConAt, HasVarAt, IsOpen, CanBegin, PremisesPass, AtomAdds}
+use Rattle.cep_dead.specs.Tables.{Possibility, of_stage, of_pred, of_con, nth_argument, HasVarAt, IsOpen, CanBegin, PremisesPass, AtomAdds}
 use Rattle.cep_dead.specs.Rounds.{premises_of, RulePasses, IsMade, IsInRound, IsDead, IsInSomeRound, IsClosedTable}
 use Rattle.cep_dead.proofs.Growing.{open_later, begin_later, pass_later, adds_later, later_item, rule_later, by_rule_later, by_clause_later}
 
@@ -138,11 +138,7 @@ module _ (program : Parts) where
     adds_once : (a : AtomTree) (item : Possibility) → AtomAdds program.signature all_rounds kinds premises a item → (n : ℕ) × AtomAdds program.signature (in_round n) kinds premises a item
     adds_once a (of_stage k) adds = (0, adds)
     adds_once a (of_pred p) adds = (0, adds)
-    adds_once a (of_con p i c) adds =
-        ⊎_elim
-        (λ (here : HasConAt a i c). (0, (adds.0, inl here)))
-        (λ by. let sooner = begin_once by.0 c by.2 in (sooner.0, (adds.0, inr (by.0, by.1, sooner.1))))
-        adds.1
+    adds_once a (of_con p i c) adds = grind (arith, begin_once, adds.0, adds.1)
 
   rule_once : (rule : Rule) → RulePasses program all_rounds rule → (n : ℕ) × RulePasses program (in_round n) rule
   rule_once rule passes =
@@ -157,18 +153,10 @@ module _ (program : Parts) where
       )
 
   made_once : (rule : Rule) (item : Possibility) → IsMade program all_rounds rule item → (n : ℕ) × IsMade program (in_round n) rule item
-  made_once rule item made =
-      ⊎_elim
-      (λ by. let sooner = adds_once rule.kinds (premises_of rule) by.0 item by.2 in (sooner.0, inl (by.0, by.1, sooner.1)))
-      (λ next. (0, inr next))
-      made
+  made_once rule item made = grind (arith, adds_once, rule.kinds)
 
   made_from : (n m : ℕ) → n ≤ m → (rule : Rule) (item : Possibility) → IsMade program (in_round n) rule item → IsMade program (in_round m) rule item
-  made_from n m within rule item made =
-      ⊎_elim
-      (λ by. inl (by.0, by.1, adds_later (in_round n) (in_round m) (later_item program n m within) program.signature rule.kinds (premises_of rule) by.0 item by.2))
-      (λ next. inr next)
-      made
+  made_from n m within rule item made = grind (arith, adds_later, later_item, program.signature, rule.kinds)
 
   pub rounds_closed : IsClosedTable program all_rounds
   rounds_closed = record {
