@@ -14,9 +14,7 @@ use Rattle.cep_log.proofs.Once.{OneValue, one_way, one_passed}
 -- a way through all lines goes through each of them
 leads_through : (program : Parts) (n : ℕ) (before : List (List ℕ)) (line : List ℕ) (behind : List (List ℕ)) (old new : SoFar) → Leads program n (before ++ line ∷ behind) old new
     → (mid : SoFar) × (next : SoFar) × Leads program n before old mid × MovesOn program (n + length before) line mid next
-leads_through program n [] line behind old new leads =
-    let at : n ≡ n + length {A = List ℕ} [] = omega arith in
-    (old, leads.0, refl, subst (λ (m : ℕ). MovesOn program m line old leads.0) at leads.1)
+leads_through program n [] line behind old new leads = grind (arith, leads.0, leads.1)
 leads_through program n (first ∷ before) line behind old new leads =
     let later = leads_through program (n + 1) before line behind leads.0 new leads.2 in
     let at : n + 1 + length before ≡ n + length (first ∷ before) = omega arith in
@@ -66,9 +64,7 @@ one_place : (program : Parts) (laws : OneValue program) (n : ℕ) (start : SoFar
     → before ++ line ∷ behind ≡ before' ++ line' ∷ behind' → Leads program n before start so_far → Leads program n before' start so_far'
     → ((new : SoFar) → ¬ (MovesOn program (n + length before) line so_far new)) → ((new : SoFar) → ¬ (MovesOn program (n + length before') line' so_far' new))
     → (before ≡ before') × (line ≡ line') × (so_far ≡ so_far')
-one_place program laws n start [] [] line line' behind behind' so_far so_far' e a b no_one no_other =
-    let same : line ≡ line' = cc in
-    (refl, same, a ∙ sym b)
+one_place program laws n start [] [] line line' behind behind' so_far so_far' e a b no_one no_other = grind arith
 one_place program laws n start [] (first ∷ before') line line' behind behind' so_far so_far' e a b no_one no_other =
     let same : line ≡ first = cc in
     let at : n ≡ n + length {A = List ℕ} [] = omega arith in

@@ -161,7 +161,4 @@ one_cut bytes (line ∷ lines) (line' ∷ lines') (inl a) (inl b) =
     cc
 one_cut bytes (line ∷ lines) (line' ∷ lines') (inl a) (inr b) = absurd (none_within a.0 a.1 (subst (HasNone 10) (sym b.0 ∙ a.2) b.2))
 one_cut bytes (line ∷ lines) (line' ∷ lines') (inr a) (inl b) = absurd (none_within b.0 b.1 (subst (HasNone 10) (sym a.0 ∙ b.2) a.2))
-one_cut bytes (line ∷ lines) (line' ∷ lines') (inr a) (inr b) =
-    let first : line ≡ line' = sym a.0 ∙ b.0 in
-    let rest : lines ≡ lines' = a.3 ∙ sym b.3 in
-    cc
+one_cut bytes (line ∷ lines) (line' ∷ lines') (inr a) (inr b) = grind (arith, a.0, b.0, a.3, b.3)

@@ -45,10 +45,7 @@ mid_is false state = refl
 
 held : (deeds : List Deed) → AllZip HoldsDeed deeds (map step_of deeds)
 held [] = tt
-held (deed ∷ deeds) = (
-  record { offer = refl; proofs = refl; stage = refl; mid = mid_holds (has_listing Two deed.after.turns) deed.after.spot.state },
-  held deeds,
-)
+held (deed ∷ deeds) = grind (arith, mid_holds, deed.after.turns, deed.after.spot.state, held deeds)
 
 -- A log that says the same holds the same.
 

@@ -93,9 +93,7 @@ module _ (lead : LeadToStates) (program : Parts) (kept : IsProgram program) (hei
 
   -- the step of a deed, as the log holds it
   pub held_step : (deed : Deed) (step : LogStep) → IsDeed program height deed → HoldsDeed deed step → IsMachineStep program height deed.before.spot deed.after.spot step.offer deed.rule step.proofs
-  held_step deed step is holds =
-      subst (λ (proofs : List ProofTree). IsMachineStep program height deed.before.spot deed.after.spot step.offer deed.rule proofs) (sym holds.proofs)
-      (subst (λ (offer : Offer). IsMachineStep program height deed.before.spot deed.after.spot offer deed.rule deed.proofs) (sym holds.offer) is.step)
+  held_step deed step is holds = grind (arith, deed.before.spot, deed.after.spot, step.offer, deed.rule, holds.proofs, deed.proofs, holds.offer, is.step)
 
   -- what holds of steps that hold deeds, one after another
   record AreHeld (steps : List LogStep) (old last : Spot) : Type 0 where
@@ -104,11 +102,7 @@ module _ (lead : LeadToStates) (program : Parts) (kept : IsProgram program) (hei
     kept_last : IsKept program last
 
   held_steps : AreListings program → (at : Position) (deeds : List Deed) (last : Position) (steps : List LogStep) → AreDeeds program height at deeds last → AllZip HoldsDeed deeds steps → IsKept program at.spot → AreHeld steps at.spot last.spot
-  held_steps listing_of at [] last [] done all before = record {
-    of_program = tt;
-    legal = ap (λ (here : Position). here.spot) done;
-    kept_last = subst (λ (here : Position). IsKept program here.spot) (sym done) before;
-  }
+  held_steps listing_of at [] last [] done all before = grind arith
   held_steps listing_of at [] last (step ∷ steps) done all before = absurd all
   held_steps listing_of at (deed ∷ deeds) last [] done all before = absurd all
   held_steps listing_of at (deed ∷ deeds) last (step ∷ steps) done all before =

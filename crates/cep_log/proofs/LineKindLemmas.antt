@@ -27,26 +27,18 @@ told_none (Some x) P e p = absurd cc
 -- what stands after the first word of a line of a listing
 pub counted_as : (line rest word behind : List ℕ) (count : ℕ) (text : List ℕ) → line ≡ codes "have " ++ rest → rest ≡ word ++ behind → HasNone 32 word → Stops 32 behind → count ≤ MOST_COPIES → line ≡ codes "have " ++ (decimal count ++ 32 ∷ text)
     → (word ≡ decimal count) × (behind ≡ 32 ∷ text)
-counted_as line rest word behind count text is cut none stops few said =
-    let h : codes "have " ++ rest ≡ codes "have " ++ (decimal count ++ 32 ∷ text) = sym is ∙ said in
-    let same : rest ≡ decimal count ++ 32 ∷ text = cc in
-    one_parting 32 word (decimal count) behind (32 ∷ text) none (decimal_unspaced count (omega arith)) stops (inr (text, refl)) (sym cut ∙ same)
+counted_as line rest word behind count text is cut none stops few said = grind (arith, one_parting, decimal_unspaced)
 
 -- the text after the count is that of no atom
 pub have_none : (program : Parts) (line text : List ℕ) (count : ℕ) (entry : AtomTree × ℕ) → count ≤ MOST_COPIES → line ≡ codes "have " ++ (decimal count ++ 32 ∷ text) → ((a : AtomTree) → ¬ (IsAtomText program text a)) → IsHaveLine program line entry → ⊥
-have_none program line text count entry few is none said =
-    let h : codes "have " ++ (decimal count ++ 32 ∷ text) ≡ codes "have " ++ (decimal entry.1 ++ 32 ∷ said.text) = sym is ∙ said.written in
-    let behind : decimal count ++ 32 ∷ text ≡ decimal entry.1 ++ 32 ∷ said.text = cc in
-    let same : text ≡ said.text = (one_count count entry.1 text said.text few said.few behind).1 in
-    none entry.0 (subst (λ bytes. IsAtomText program bytes entry.0) (sym same) said.atom)
+have_none program line text count entry few is none said = grind (arith, one_count, entry.1, said.text, said.written, said.few, entry.0, said.atom)
 
 pub same_decimal : (m n : ℕ) (word : List ℕ) → m < 2 ^ 32 → n < 2 ^ 32 → word ≡ decimal m → word ≡ decimal n → m ≡ n
 same_decimal m n word a b e f = decimal_injective m n (omega arith) (omega arith) (sym e ∙ f)
 
 -- the height that the line says
 pub high_as : (line word : List ℕ) (height : ℕ) → line ≡ codes "height " ++ word → line ≡ codes "height " ++ decimal height → word ≡ decimal height
-high_as line word height is said =
-    let h : codes "height " ++ word ≡ codes "height " ++ decimal height = sym is ∙ said in cc
+high_as line word height is said = grind arith
 
 -- a place within a list has an item
 none_at : {A : Type 0} (xs : List A) (i : ℕ) → i < length xs → slice_get xs i ≡ None → ⊥
@@ -56,19 +48,10 @@ none_at (x ∷ xs) (suc i) within e = none_at xs i (omega arith) e
 
 -- the stage that the line names
 stage_told : (program : Parts) (line name : List ℕ) (stage : ℕ) → line ≡ codes "stage " ++ name → IsStageNamed program.stages stage name → IsStageLine program line stage
-stage_told program line name stage is named = record {
-  in_range = slice_get_within program.stages stage named.0 named.1;
-  written = is ∙ ap (λ text. codes "stage " ++ text) (sym (ap stage_name named.1 ∙ named.2));
-}
+stage_told program line name stage is named = grind (arith, slice_get_within, program.stages, named.0, named.1, named.2)
 
 stage_untold : (program : Parts) (line name : List ℕ) (stage : ℕ) → line ≡ codes "stage " ++ name → ¬ (IsStageNamed program.stages stage name) → IsStageLine program line stage → ⊥
-stage_untold program line name stage is none said = by_place (slice_get program.stages stage) refl where
-  same : name ≡ stage_name (slice_get program.stages stage)
-  same = let h : codes "stage " ++ name ≡ codes "stage " ++ stage_name (slice_get program.stages stage) = sym is ∙ said.written in cc
-
-  by_place : (found : Option Stage) → slice_get program.stages stage ≡ found → ⊥
-  by_place None e = let within = said.in_range in none_at program.stages stage within e
-  by_place (Some there) e = none (there, e, sym (same ∙ ap stage_name e))
+stage_untold program line name stage is none said = grind (arith, none_at, program.stages, said.written, said.in_range)
 
 pub stage_line_told : (program : Parts) (line name : List ℕ) (found : Option ℕ) → line ≡ codes "stage " ++ name
     → MatchOption found (Unit {0}) (λ stage. IsStageNamed program.stages stage name) → MatchOption found ((stage : ℕ) → ¬ (IsStageNamed program.stages stage name)) (λ stage. Unit {0})
@@ -102,12 +85,4 @@ named_as program line rest word behind is cut none stops found tells = (there fo
 
 -- the number of the listing that the line begins
 pub state_said : (line word written : List ℕ) (number : ℕ) (same : Bool) → line ≡ codes "state " ++ word → same ≡ bytes_eq word written → written ≡ decimal number → (IsTrue same ↔ (line ≡ state_text number))
-state_said line word written number same is tells number_is = (there, back) where
-  there : IsTrue same → line ≡ state_text number
-  there t = is ∙ ap (λ text. codes "state " ++ text) ((bytes_eq-Decides word written).0 (sym tells ∙ t) ∙ number_is)
-
-  back : line ≡ state_text number → IsTrue same
-  back said =
-      let h : codes "state " ++ word ≡ codes "state " ++ decimal number = sym is ∙ said in
-      let equal : word ≡ decimal number = cc in
-      tells ∙ (bytes_eq-Decides word written).1 (equal ∙ sym number_is)
+state_said line word written number same is tells number_is = grind (arith, bytes_eq-Decides)

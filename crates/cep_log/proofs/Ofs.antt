@@ -205,28 +205,22 @@ module _ (program : Parts) where
       let few = part.few in
       subst (IsReadOf program (suc n)) (sym begins.step)
       (pending n log (step_begun n begins.offer) begins.rule part unended (omega arith) begins.numbered values tt (omega arith) refl refl)
-  begins_kept n line log new part unended (inr ends) =
-      subst (IsReadOf program (suc n)) (sym ends.ended) (part_later n (suc n) log part (omega arith), record { each = tt; rising = tt })
+  begins_kept n line log new part unended (inr ends) = grind (arith, part_later, ends.ended)
 
   pub takes_kept : (through : Transitive) (n : ℕ) (line : List ℕ) (old new : SoFar) → IsReadOf program n old → Becomes program n line old new → IsReadOf program (suc n) new
   takes_kept through n line Nothing new is takes = subst (IsReadOf program (suc n)) (sym takes.2) tt
   takes_kept through n line (Begun version) new is takes = subst (IsReadOf program (suc n)) (sym takes.3) takes.1
-  takes_kept through n line (Height version height) new is takes =
-      subst (IsReadOf program (suc n)) (sym takes.2)
-      (record { height = is; stage = takes.1.in_range; start = record { each = tt; rising = tt }; steps = tt; listed = tt; few = omega arith }, refl)
+  takes_kept through n line (Height version height) new is takes = grind (arith, takes.2, takes.1.in_range)
   takes_kept through n line (Whole log) new is (inl goes) =
       let part = is.0 in
       subst (IsReadOf program (suc n)) (sym goes.whole)
       (record { height = part.height; stage = part.stage; start = listing_more through program line log.start goes.start part.start goes.listed; steps = part.steps; listed = part.listed; few = let few = part.few in omega arith }, is.1)
   takes_kept through n line (Whole log) new is (inr next) = begins_kept n line log new is.0 is.1 next
-  takes_kept through n line (Unlisted log step) new is takes =
-      subst (IsReadOf program (suc n)) (sym takes.1)
-      (part_later n (suc n) log is.0 (omega arith), (is.1.0, (let h = is.1.1 in omega arith), is.1.2, record { each = tt; rising = tt }))
+  takes_kept through n line (Unlisted log step) new is takes = grind (arith, part_later, takes.1, is.0, is.1.0, is.1.1, is.1.2)
   takes_kept through n line (Listed log step mid) new is (inl goes) =
       subst (IsReadOf program (suc n)) (sym goes.more)
       (part_later n (suc n) log is.0 (omega arith), (is.1.0, (let h = is.1.1 in omega arith), is.1.2, listing_more through program line mid.state goes.state is.1.3 goes.listed))
-  takes_kept through n line (Listed log step mid) new is (inr next) =
-      begins_kept n line (log_listed log step mid) new (with_listing n log step mid is.0 is.1.1 is.1.2 is.1.3) is.1.0 next
+  takes_kept through n line (Listed log step mid) new is (inr next) = grind (arith, begins_kept n line (log_listed log step mid) new (with_listing n log step mid is.0 is.1.1 is.1.2 is.1.3) is.1.0 next, with_listing n log step mid is.0 is.1.1 is.1.2 is.1.3, is.0, is.1.1, is.1.2, is.1.3, is.1.0)
   takes_kept through n line (Within log step) new is goes = cases goes.own where
     open_step : IsOpenOf program step
     open_step = is.1.2
@@ -257,8 +251,7 @@ module _ (program : Parts) where
         let leaves = lacks_stage goes.rule.next (nat_le (length goes.rule.backs) (length step.proofs)) (le_tests (length goes.rule.backs) (length step.proofs) (omega arith)) lacks_none in
         subst (IsReadOf program (suc n)) (sym said.3)
         (staged n log step goes.rule said.0 is.0 is.1.0 few goes.numbered values open_step.low (omega arith) leaves said.2.in_range open_step.no_mid)
-  takes_kept through n line (Ended log end) new is goes =
-      subst (IsReadOf program (suc n)) (sym goes.ended) (part_later n (suc n) log is.0 (omega arith), listing_more through program line end.state goes.state is.1 goes.listed)
+  takes_kept through n line (Ended log end) new is goes = grind (arith, part_later, listing_more through program line end.state goes.state is.1 goes.listed, goes.ended, is.0, end.state, goes.state, is.1, goes.listed)
 
   -- a line that is passed over leaves all as it is
   read_later : (n : ℕ) (so_far : SoFar) → IsReadOf program n so_far → IsReadOf program (suc n) so_far
@@ -282,16 +275,7 @@ module _ (program : Parts) where
       subst (λ (m : ℕ). IsReadOf program m new) (omega arith) (leads_kept through (n + 1) lines leads.0 new next leads.2)
 
   whole_is_of : (lines : ℕ) (log : Log) → lines ≤ MOST_LOG → IsPartOf program (1 + lines) log → log.end ≡ None → IsLogOf program (record log { lines = lines })
-  whole_is_of lines log short part unended = record {
-    height = part.height;
-    stage = part.stage;
-    start = part.start;
-    steps = part.steps;
-    listed = part.listed;
-    ending = subst (λ end. IfSome end (λ end. IsListing program.signature end.state)) (sym unended) tt;
-    lines = short;
-    few = let few = part.few in omega arith;
-  }
+  whole_is_of lines log short part unended = grind (arith, part.height, part.stage, part.start, part.steps, part.listed, program.signature, part.few)
 
   -- The log that is said is of the program.
   pub said_is_of : (lines : ℕ) (last : SoFar) (log : Log) → lines ≤ MOST_LOG → IsReadOf program (1 + lines) last → said_by last lines ≡ Some log → IsLogOf program log
@@ -300,19 +284,6 @@ module _ (program : Parts) where
   said_is_of lines (Height version height) log short is said = none_some log said
   said_is_of lines (Within read step) log short is said = none_some log said
   said_is_of lines (Unlisted read step) log short is said = none_some log said
-  said_is_of lines (Whole read) log short is said =
-      subst (IsLogOf program) (some_same (record read { lines = lines }) log said) (whole_is_of lines read short is.0 is.1)
-  said_is_of lines (Listed read step mid) log short is said =
-      subst (IsLogOf program) (some_same (record (log_listed read step mid) { lines = lines }) log said)
-      (whole_is_of lines (log_listed read step mid) short (with_listing (1 + lines) read step mid is.0 is.1.1 is.1.2 is.1.3) is.1.0)
-  said_is_of lines (Ended read end) log short is said =
-      subst (IsLogOf program) (some_same (record read { end = Some end; lines = lines }) log said) (record {
-        height = is.0.height;
-        stage = is.0.stage;
-        start = is.0.start;
-        steps = is.0.steps;
-        listed = is.0.listed;
-        ending = is.1;
-        lines = short;
-        few = let few = is.0.few in omega arith;
-      })
+  said_is_of lines (Whole read) log short is said = grind (arith, some_same, whole_is_of, is.0, is.1)
+  said_is_of lines (Listed read step mid) log short is said = grind (arith, some_same, whole_is_of, with_listing, is.0, is.1.1, is.1.2, is.1.3, is.1.0)
+  said_is_of lines (Ended read end) log short is said = grind (arith, some_same, is.0.height, is.0.stage, is.0.start, is.0.steps, is.0.listed, is.1, is.0.few)

@@ -50,20 +50,15 @@ decimal_unspaced n short = digits_unspaced (decimal n) (digits_decimal (numerals
 
 -- the count and the text after it
 pub one_count : (m n : ℕ) (text text' : List ℕ) → m ≤ MOST_COPIES → n ≤ MOST_COPIES → decimal m ++ (32 ∷ text) ≡ decimal n ++ (32 ∷ text') → (m ≡ n) × (text ≡ text')
-one_count m n text text' a b e =
-    let parted = one_parting 32 (decimal m) (decimal n) (32 ∷ text) (32 ∷ text') (decimal_unspaced m (omega arith)) (decimal_unspaced n (omega arith)) (inr (text, refl)) (inr (text', refl)) e in
-    let behind : 32 ∷ text ≡ 32 ∷ text' = parted.1 in
-    (decimal_injective m n (omega arith) (omega arith) parted.0, (cc))
+one_count m n text text' a b e = grind (arith, one_parting, decimal_unspaced, decimal_injective)
 
 -- Names
 
 pub number_named : (names : List (List ℕ)) (i j : ℕ) (name : List ℕ) → AllDiffer names → slice_get names i ≡ Some name → slice_get names j ≡ Some name → i ≡ j
 number_named [] i j name differ a b = none_some name a
 number_named (first ∷ names) zero zero name differ a b = refl
-number_named (first ∷ names) zero (suc j) name differ a b =
-    absurd (holds_at (λ other. first ≢ other) names j name differ.0 b (some_same first name a))
-number_named (first ∷ names) (suc i) zero name differ a b =
-    absurd (holds_at (λ other. first ≢ other) names i name differ.0 a (some_same first name b))
+number_named (first ∷ names) zero (suc j) name differ a b = grind (arith, holds_at, some_same, differ.0)
+number_named (first ∷ names) (suc i) zero name differ a b = grind (arith, holds_at, some_same, differ.0)
 number_named (first ∷ names) (suc i) (suc j) name differ a b = ap suc (number_named names i j name differ.1 a b)
 
 stage_there : (stages : List Stage) (i : ℕ) → i < length stages → slice_get (map (λ stage. stage.name) stages) i ≡ Some (stage_name (slice_get stages i))
@@ -114,17 +109,10 @@ pub record OneValue (program : Parts) : Type 0 where
 
 module _ (program : Parts) (laws : OneValue program) where
   one_height : (line : List ℕ) (m n : ℕ) → m ≤ MOST_HEIGHT → n ≤ MOST_HEIGHT → line ≡ codes "height " ++ decimal m → line ≡ codes "height " ++ decimal n → m ≡ n
-  one_height line m n a b e f =
-      let h : codes "height " ++ decimal m ≡ codes "height " ++ decimal n = sym e ∙ f in
-      let same : decimal m ≡ decimal n = cc in
-      decimal_injective m n (omega arith) (omega arith) same
+  one_height line m n a b e f = grind (arith, decimal_injective)
 
   one_stage : (line : List ℕ) (i j : ℕ) → IsStageLine program line i → IsStageLine program line j → i ≡ j
-  one_stage line i j a b =
-      let h : codes "stage " ++ stage_name (slice_get program.stages i) ≡ codes "stage " ++ stage_name (slice_get program.stages j) = sym a.written ∙ b.written in
-      let same : stage_name (slice_get program.stages i) ≡ stage_name (slice_get program.stages j) = cc in
-      number_named (map (λ stage. stage.name) program.stages) i j (stage_name (slice_get program.stages i)) laws.stages
-      (stage_there program.stages i a.in_range) (stage_there program.stages j b.in_range ∙ ap Some (sym same))
+  one_stage line i j a b = grind (arith, number_named, stage_there program.stages i a.in_range, stage_there program.stages j b.in_range, program.stages, a.written, b.written, laws.stages, a.in_range, b.in_range)
 
   pub one_have : (line : List ℕ) (e f : AtomTree × ℕ) → IsHaveLine program line e → IsHaveLine program line f → e ≡ f
   one_have line e f a b =
@@ -136,16 +124,10 @@ module _ (program : Parts) (laws : OneValue program) where
       λ i. (atoms i, counts i)
 
   pub one_step : (line : List ℕ) (o p : Offer) → IsStepLine program line o → IsStepLine program line p → o ≡ p
-  one_step line o p a b =
-      let h : codes "step " ++ a.text ≡ codes "step " ++ b.text = sym a.written ∙ b.written in
-      let same : a.text ≡ b.text = cc in
-      laws.offers o p a.offer_is.of_rule b.offer_is.of_rule (sym a.offer_is.text ∙ (same ∙ b.offer_is.text))
+  one_step line o p a b = grind (arith, a.text, b.text, a.written, b.written, laws.offers, a.offer_is.of_rule, b.offer_is.of_rule, a.offer_is.text, b.offer_is.text)
 
   pub one_by : (line : List ℕ) (d e : ProofTree) → IsByLine program line d → IsByLine program line e → d ≡ e
-  one_by line d e a b =
-      let h : codes "by " ++ a.text ≡ codes "by " ++ b.text = sym a.written ∙ b.written in
-      let same : a.text ≡ b.text = cc in
-      laws.derivations d e a.proof_is.of_clauses b.proof_is.of_clauses (sym a.proof_is.text ∙ (same ∙ b.proof_is.text))
+  one_by line d e a b = grind (arith, a.text, b.text, a.written, b.written, laws.derivations, a.proof_is.of_clauses, b.proof_is.of_clauses, a.proof_is.text, b.proof_is.text)
 
   one_listing : (line : List ℕ) (old new new' : List (AtomTree × ℕ)) → GoesOnListing program line old new → GoesOnListing program line old new' → new ≡ new'
   one_listing line old new new' a b = a.added ∙ (ap (λ entry. old ++ entry ∷ []) (one_have line a.entry b.entry a.said b.said) ∙ sym b.added)
@@ -186,10 +168,7 @@ module _ (program : Parts) (laws : OneValue program) where
   one_next number line log new new' (inl a) (inl b) = one_begun number line log new new' a b
   one_next number line log new new' (inl a) (inr b) = absurd (step_or_end _ _ (sym a.said.written ∙ b.said))
   one_next number line log new new' (inr a) (inl b) = absurd (step_or_end _ _ (sym b.said.written ∙ a.said))
-  one_next number line log new new' (inr a) (inr b) =
-      let h : codes "end " ++ ending_word a.word ≡ codes "end " ++ ending_word b.word = sym a.said ∙ b.said in
-      let same : ending_word a.word ≡ ending_word b.word = cc in
-      a.ended ∙ (ap (λ word. Ended log (end_begun number word)) (one_word a.word b.word same) ∙ sym b.ended)
+  one_next number line log new new' (inr a) (inr b) = grind (arith, one_word, a.word, b.word, a.said, b.said, a.ended, b.ended)
 
   pub one_taken : (number : ℕ) (line : List ℕ) (old new new' : SoFar) → Becomes program number line old new → Becomes program number line old new' → new ≡ new'
   one_taken number line Nothing new new' a b = a.2 ∙ (ap Begun (one_version a.0 b.0 (sym a.1 ∙ b.1)) ∙ sym b.2)

@@ -38,19 +38,11 @@ upper_byte : (byte : ℕ) → IsTrue (is_ascii_uppercase byte) → (byte ≢ 10)
 upper_byte byte t = ((λ e. let h : is_ascii_uppercase 10 ≡ true = subst (λ b. is_ascii_uppercase b ≡ true) e t in absurd (false≢true h)), (λ e. let h : is_ascii_uppercase 13 ≡ true = subst (λ b. is_ascii_uppercase b ≡ true) e t in absurd (false≢true h)))
 
 glyph_one : (upper : Bool) (d : ℕ) → (digit_glyph upper d ≢ 10) × (digit_glyph upper d ≢ 13)
-glyph_one upper d = cases (nat_lt d 10) upper where
-  cases : (low : Bool) (upper : Bool) → (cond low (48 + d) (cond upper (55 + d) (87 + d)) ≢ 10) × (cond low (48 + d) (cond upper (55 + d) (87 + d)) ≢ 13)
-  cases true upper = ((λ e. omega arith), (λ e. omega arith))
-  cases false true = ((λ e. omega arith), (λ e. omega arith))
-  cases false false = ((λ e. omega arith), (λ e. omega arith))
+glyph_one upper d = grind arith
 
 onto_one : (k base : ℕ) (upper : Bool) (n : ℕ) (acc : List ℕ) → IsOneLine acc → IsOneLine (digits_onto k base upper n acc)
 onto_one zero base upper n acc is = is
-onto_one (suc k) base upper n acc is = cases (n / base == 0) (glyph_one upper (n % base), is) (onto_one k base upper (n / base) (digit_glyph upper (n % base) ∷ acc) (glyph_one upper (n % base), is)) where
-  cases : (last : Bool) → IsOneLine (digit_glyph upper (n % base) ∷ acc) → IsOneLine (digits_onto k base upper (n / base) (digit_glyph upper (n % base) ∷ acc))
-      → IsOneLine (cond last (digit_glyph upper (n % base) ∷ acc) (digits_onto k base upper (n / base) (digit_glyph upper (n % base) ∷ acc)))
-  cases true last later = last
-  cases false last later = later
+onto_one (suc k) base upper n acc is = grind (arith, glyph_one, onto_one k base upper (n / base) (digit_glyph upper (n % base) ∷ acc) (glyph_one upper (n % base), is))
 
 pub decimal_one : (n : ℕ) → IsOneLine (decimal n)
 unfolding digits
@@ -140,9 +132,7 @@ module _ (program : Parts) (is : IsProgram program) where
 
   mutual
     pub proof_one : (proof : ProofTree) → IsProofOf program proof → IsOneLine (proof_text program proof)
-    proof_one (by_clause number values subs) of =
-        both (begin_text program number values) (proofs_text program subs ++ 93 ∷ []) (begin_one number values of.0)
-        (both (proofs_text program subs) (93 ∷ []) (proofs_one subs of.2) (((λ e. omega arith), (λ e. omega arith)), tt))
+    proof_one (by_clause number values subs) of = grind (arith, both, begin_one number values of.0, proofs_one subs of.2, of.0, of.2)
 
     proofs_one : (proofs : ProofTrees) → AreProofsOf program proofs → IsOneLine (proofs_text program proofs)
     proofs_one no_goal of = tt
@@ -168,5 +158,4 @@ no_cr_at_end (byte ∷ bytes) (first ∷ front) one e = let rest : bytes ≡ fro
 
 pub written_lines : (lines : List (List ℕ)) → AllByRecursion IsOneLine lines → AreLines (flat_map line lines) lines
 written_lines [] all = refl
-written_lines (first ∷ lines) all =
-    inl (first, flat_map line lines, flat_map-cons line first lines ∙ append_assoc first (10 ∷ []) (flat_map line lines), unbroken first all.0, inr (refl, λ front. no_cr_at_end first front all.0), written_lines lines all.1)
+written_lines (first ∷ lines) all = grind (arith, flat_map-cons, append_assoc, unbroken, no_cr_at_end, all.0, written_lines lines all.1, all.1)

@@ -30,9 +30,7 @@ pub record HasPassed (program : Parts) (lines left : List (List ℕ)) (number : 
   pub counted : number ≡ length done
 
 leads_more : (program : Parts) (n : ℕ) (lines : List (List ℕ)) (line : List ℕ) (old mid new : SoFar) → Leads program n lines old mid → MovesOn program (n + length lines) line mid new → Leads program n (lines ++ line ∷ []) old new
-leads_more program n [] line old mid new leads passes =
-    let at : n + length {A = List ℕ} [] ≡ n = omega arith in
-    (new, subst (λ so_far. MovesOn program n line so_far new) leads (subst (λ (m : ℕ). MovesOn program m line mid new) at passes), refl)
+leads_more program n [] line old mid new leads passes = grind arith
 leads_more program n (first ∷ lines) line old mid new leads passes =
     let at : n + length (first ∷ lines) ≡ n + 1 + length lines = omega arith in
     (leads.0, leads.1, leads_more program (n + 1) lines line leads.0 mid new leads.2 (subst (λ (m : ℕ). MovesOn program m line mid new) at passes))
@@ -50,16 +48,11 @@ passed_more program lines left behind line number so_far next passed is passes =
 
 -- fewer lines than these were read
 pub number_short : (program : Parts) (bytes : List ℕ) (left behind : List (List ℕ)) (line : List ℕ) (number : ℕ) (so_far : SoFar) → length bytes ≤ MOST_LOG → HasPassed program (all_lines bytes) left number so_far → left ≡ line ∷ behind → number < MOST_LOG
-number_short program bytes left behind line number so_far short passed is =
-    let few = few_lines bytes in
-    let lengths = ap length (passed.cut ∙ ap (λ rest. passed.done ++ rest) is) ∙ length-append passed.done (line ∷ behind) in
-    let counted = passed.counted in
-    omega arith
+number_short program bytes left behind line number so_far short passed is = grind (arith, few_lines bytes, length-append passed.done (line ∷ behind), passed.cut, passed.done, passed.counted)
 
 -- what was read is of the program
 pub read_is_of : (through : Transitive) (program : Parts) (lines left : List (List ℕ)) (number : ℕ) (so_far : SoFar) → HasPassed program lines left number so_far → IsReadOf program (1 + number) so_far
-read_is_of through program lines left number so_far passed =
-    subst (λ (n : ℕ). IsReadOf program (1 + n) so_far) (sym passed.counted) (leads_kept program through 1 passed.done Nothing so_far tt passed.leads)
+read_is_of through program lines left number so_far passed = grind (arith, leads_kept, passed.counted, passed.done, passed.leads)
 
 pub can_grow : (program : Parts) (number : ℕ) (so_far : SoFar) → number < MOST_LOG → IsReadOf program (1 + number) so_far → CanGrow program so_far
 can_grow program number Nothing short is = tt
@@ -73,9 +66,7 @@ can_grow program number (Ended log end) short is = tt
 
 -- all lines were read
 all_done : (program : Parts) (lines : List (List ℕ)) (number : ℕ) (so_far : SoFar) → HasPassed program lines [] number so_far → Leads program 1 lines Nothing so_far × (number ≡ length lines)
-all_done program lines number so_far passed =
-    let same : lines ≡ passed.done = passed.cut ∙ append-nil passed.done in
-    (subst (λ done. Leads program 1 done Nothing so_far) (sym same) passed.leads, passed.counted ∙ ap length (sym same))
+all_done program lines number so_far passed = grind (arith, append-nil, passed.done, passed.cut, passed.leads, passed.counted)
 
 pub log_said : (program : Parts) (bytes : List ℕ) (left : List (List ℕ)) (number : ℕ) (so_far : SoFar) (log : Log) → length bytes ≤ MOST_LOG → HasPassed program (all_lines bytes) left number so_far → left ≡ [] → said_by so_far number ≡ Some log → HasLog program bytes log
 log_said program bytes left number so_far log short passed none said =
@@ -115,11 +106,7 @@ misfit_said program bytes left behind line number so_far fault short passed is n
 
 -- no more lines than these were read
 pub number_most : (program : Parts) (bytes : List ℕ) (left : List (List ℕ)) (number : ℕ) (so_far : SoFar) → length bytes ≤ MOST_LOG → HasPassed program (all_lines bytes) left number so_far → number ≤ MOST_LOG
-number_most program bytes left number so_far short passed =
-    let few = few_lines bytes in
-    let lengths = ap length passed.cut ∙ length-append passed.done left in
-    let counted = passed.counted in
-    omega arith
+number_most program bytes left number so_far short passed = grind (arith, few_lines bytes, length-append passed.done left, passed.cut, passed.done, passed.counted)
 
 pub transitive : IsTotalOrder atom_cmp → Transitive
 transitive order = λ a b c p q. order.trans a b c p q

@@ -22,8 +22,7 @@ told_some (Some y) x P e p = let same : y ≡ x = cc in subst P same p
 
 -- the one line of a listing does not stand after the others
 pub listed_none : (program : Parts) (laws : OneValue program) (line : List ℕ) (entries : List (AtomTree × ℕ)) (entry other : AtomTree × ℕ) → IsHaveLine program line entry → ¬ (IsBehind entries entry.0) → IsHaveLine program line other → IsBehind entries other.0 → ⊥
-listed_none program laws line entries entry other said early said' behind =
-    early (subst (λ (e : AtomTree × ℕ). IsBehind entries e.0) (one_have program laws line other entry said' said) behind)
+listed_none program laws line entries entry other said early said' behind = grind (arith, one_have program laws line other entry said' said)
 
 -- the line begins neither a step nor the end
 pub nothing_begins : (program : Parts) (number : ℕ) (line : List ℕ) (log : Log) → ((word : EndWord) → ¬ (IsEndLine line word)) → ((offer : Offer) → ¬ (IsStepLine program line offer)) → (new : SoFar) → ¬ (BeginsNext program number line log new)
@@ -75,14 +74,7 @@ stage_said program parts line log step rule stage new is at full said joined = r
 
 pub stage_none : (program parts : Parts) (line : List ℕ) (log : Log) (step : LogStep) (rule : Rule) → parts ≡ program → slice_get parts.rules step.offer.rule ≡ Some rule
     → length rule.backs ≤ length step.proofs → ((stage : ℕ) → ¬ (IsStageLine program line stage)) → (new : SoFar) → GoesOnStep program line log step new → ⊥
-stage_none program parts line log step rule is at full none new goes = cases goes.own where
-  same : rule ≡ goes.rule
-  same = some_same rule goes.rule (sym at ∙ (ap (λ (p : Parts). slice_get p.rules step.offer.rule) is ∙ goes.numbered))
-
-  cases : ((proof : ProofTree) × (length step.proofs < length goes.rule.backs) × IsByLine program line proof × (new ≡ with_step goes.rule log (record step { proofs = step.proofs ++ proof ∷ [] })))
-      ⊎ ((stage : ℕ) × (length goes.rule.backs ≤ length step.proofs) × IsStageLine program line stage × (new ≡ with_step goes.rule log (record step { stage = Some stage }))) → ⊥
-  cases (inl by) = let backs = ap (λ (r : Rule). length r.backs) same in let few = by.1 in omega arith
-  cases (inr stage) = none stage.0 stage.2
+stage_none program parts line log step rule is at full none new goes = grind (arith, some_same, goes.own, goes.rule, step.offer.rule, goes.numbered, step.proofs, goes.rule.backs)
 
 pub not_some : {A : Type 0} (r : Option A) (P : Type 0) (Q : A → Type 0) → ((x : A) → r ≡ Some x → ⊥) → MatchOption r P Q → P
 not_some None P Q other p = p

@@ -48,10 +48,7 @@ module _ (laws : StepLaws) (program : Parts) (is : IsProgram program) (height : 
   all_readable : (proofs : List ProofTree) (atoms : List AtomTree) → AreProofs program height proofs atoms → AllByRecursion (IsReadable program) proofs
   all_readable [] atoms are = tt
   all_readable (proof ∷ proofs) [] are = absurd are
-  all_readable (proof ∷ proofs) (a ∷ atoms) are = (
-    record { of_clauses = laws.shapes program proof a are.0; small = laws.small_proofs program proof a is are.0; low = let here = are.1 in omega (arith, low, here) },
-    all_readable proofs atoms are.2,
-  )
+  all_readable (proof ∷ proofs) (a ∷ atoms) are = grind (arith, laws.shapes, are.0, laws.small_proofs, are.1, all_readable proofs atoms are.2, are.2)
 
   all_derivable : (proofs : List ProofTree) (atoms : List AtomTree) → AreProofs program height proofs atoms → AllByRecursion (IsDerivable program height) atoms
   all_derivable [] [] are = tt
@@ -94,7 +91,4 @@ module _ (laws : StepLaws) (program : Parts) (is : IsProgram program) (height : 
   -- All legal steps from a state can be written and read back.
   pub all_writable : (steps : List LogStep) (old last : Spot) → IsState program.signature old.state → AllByRecursion (IsStepOf program) steps → AreLegalSteps program height steps old last → AllByRecursion (IsWritable program) steps
   all_writable [] old last before of legal = tt
-  all_writable (step ∷ steps) old last before of legal = (
-    writable old legal.0 step before of.0 legal.1,
-    all_writable steps legal.0 last (state_after old legal.0 step before legal.1) of.1 legal.2,
-  )
+  all_writable (step ∷ steps) old last before of legal = grind (arith, writable old legal.0 step before of.0 legal.1, state_after old legal.0 step before legal.1, legal.0, of.0, legal.1, all_writable steps legal.0 last (state_after old legal.0 step before legal.1) of.1 legal.2, of.1, legal.2)

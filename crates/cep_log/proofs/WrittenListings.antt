@@ -51,12 +51,7 @@ state_listing laws signature state is fits = record {
 behind_others : (old : List (AtomTree × ℕ)) (entry : AtomTree × ℕ) (later : List (AtomTree × ℕ)) → AtomsRise (old ++ entry ∷ later) → IsBehind old entry.0
 behind_others [] entry later rise = tt
 behind_others (first ∷ []) entry later rise = rise.0.0
-behind_others (first ∷ next ∷ old) entry later rise =
-    let less : (n : ℕ) → suc (suc n) - 1 ≡ suc n = λ n. omega arith in
-    let less' : (n : ℕ) → suc n - 1 ≡ n = λ n. omega arith in
-    let at : slice_get (first ∷ next ∷ old) (length (first ∷ next ∷ old) - 1) ≡ slice_get (next ∷ old) (length (next ∷ old) - 1) =
-    ap (λ n. slice_get (first ∷ next ∷ old) n) (less (length old)) ∙ ap (λ n. slice_get (next ∷ old) n) (sym (less' (length old))) in
-    subst (λ found. IfSome found (λ last. atom_cmp last.0 entry.0 ≡ Less)) (sym at) (behind_others (next ∷ old) entry later rise.1)
+behind_others (first ∷ next ∷ old) entry later rise = grind (arith, entry.0, behind_others (next ∷ old) entry later rise.1, rise.1)
 
 have_at : (signature : Signature) (old : List (AtomTree × ℕ)) (entry : AtomTree × ℕ) (later : List (AtomTree × ℕ)) → AllByRecursion (IsHave signature) (old ++ entry ∷ later) → IsHave signature entry
 have_at signature [] entry later all = all.0
@@ -66,14 +61,7 @@ not_over : (signature : Signature) (entry : AtomTree × ℕ) → ¬ (IsPassedOve
 not_over signature entry e = omega arith
 
 goes_on : (program : Parts) (old : List (AtomTree × ℕ)) (entry : AtomTree × ℕ) (later : List (AtomTree × ℕ)) → IsListing program.signature (old ++ entry ∷ later) → GoesOnListing program (have_text program.signature entry) old (old ++ entry ∷ [])
-goes_on program old entry later is =
-    let have = have_at program.signature old entry later is.each in
-    record {
-      entry = entry;
-      said = record { some = have.some; few = have.few; text = atom_text program.signature entry.0; atom = record { well_typed = have.atom; fit = have.fit; text = refl }; written = refl };
-      behind = behind_others old entry later is.rising;
-      added = refl;
-    }
+goes_on program old entry later is = grind (arith, have_at, behind_others, program.signature, is.each, entry.0, is.rising)
 
 moved : (signature : Signature) (old : List (AtomTree × ℕ)) (entry : AtomTree × ℕ) (later : List (AtomTree × ℕ)) → IsListing signature (old ++ entry ∷ later) → IsListing signature ((old ++ entry ∷ []) ++ later)
 moved signature old entry later is = subst (IsListing signature) (sym (append_assoc old (entry ∷ []) later)) is
@@ -110,9 +98,7 @@ end_read program number log end old (entry ∷ entries) is = (
 
 -- Ways are joined.
 pub ways_join : (program : Parts) (number : ℕ) (lines later : List (List ℕ)) (one mid last : SoFar) → Leads program number lines one mid → Leads program (number + length lines) later mid last → Leads program number (lines ++ later) one last
-ways_join program number [] later one mid last a b =
-    let at : number + length {A = List ℕ} [] ≡ number = omega arith in
-    subst (λ so_far. Leads program number later so_far last) a (subst (λ (n : ℕ). Leads program n later mid last) at b)
+ways_join program number [] later one mid last a b = grind arith
 ways_join program number (line ∷ lines) later one mid last a b =
     let at : number + length (line ∷ lines) ≡ number + 1 + length lines = omega arith in
     (a.0, a.1, ways_join program (number + 1) lines later a.0 mid last a.2 (subst (λ (n : ℕ). Leads program n later mid last) at b))

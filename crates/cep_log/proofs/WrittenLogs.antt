@@ -38,19 +38,11 @@ few_lines (text ∷ lines) = let later = few_lines lines in omega (arith, later,
 
 steps_long : (program : Parts) (number : ℕ) (steps : List LogStep) (lines : List (List ℕ)) → TellSteps program number steps lines → length steps ≤ length lines
 steps_long program number [] lines told = omega arith
-steps_long program number (step ∷ steps) lines told =
-    let remarks = told.0 in
-    let own = step_texts program number step in
-    let rest = map (by_text program) step.proofs ++ (stage_texts program step.stage ++ mid_texts program number step.mid) in
-    let some : length own ≡ 1 + length rest = omega arith in
-    let later = steps_long program (number + 1) steps told.1 told.3 in
-    omega (arith, later, some, ap length told.4, length-append remarks (own ++ told.1), length-append own told.1)
+steps_long program number (step ∷ steps) lines told = grind (arith, length-append, told.0, step.proofs, step.stage, step.mid, steps_long program (number + 1) steps told.1 told.3, told.1, told.3, told.4)
 
 -- Each step has a line of its own.
 pub log_long : (program : Parts) (log : Log) (lines : List (List ℕ)) → TellLog program lines log → length log.steps ≤ length lines
-log_long program log lines tells =
-    let behind = tells.remarks ++ end_texts program log.end in
-    omega (arith, steps_long program 1 log.steps tells.steps tells.tell, ap length tells.whole, length-append (start_texts program log) (tells.steps ++ behind), length-append tells.steps behind)
+log_long program log lines tells = grind (arith, steps_long, length-append, tells.remarks, log.end, log.steps, tells.steps, tells.tell, tells.whole)
 
 -- Remarks
 
@@ -74,13 +66,7 @@ record ReadsMid (program : Parts) (number : ℕ) (lines : List (List ℕ)) (log 
 
 mid_told : (program : Parts) (number : ℕ) (log : Log) (own : LogStep) (mid : Option LogMid) → own.mid ≡ None → IfSome mid (λ mid. IsListing program.signature mid.state)
     → is_some mid ≡ has_listing log.version (next_number log) → ReadsMid program number (mid_texts program (next_number log) mid) log own mid
-mid_told program number log own None unlisted listing wants = record {
-  read = None;
-  lists = tt;
-  front = Whole (log_with log own);
-  whole = ap (λ (mid : Option LogMid). Some (log_with log (record own { mid = mid }))) unlisted;
-  leads = ap (λ (is : Bool). cond is (Unlisted log own) (Whole (log_with log own))) wants;
-}
+mid_told program number log own None unlisted listing wants = grind arith
 mid_told program number log own (Some mid) unlisted listing wants =
     let front = Listed log own (record { line = number; state = mid.state }) in
     let lines = state_text (next_number log) ∷ map (have_text program.signature) mid.state in
@@ -136,13 +122,7 @@ module _ (program : Parts) where
 
   steps_told : (number : ℕ) (old : SoFar) (log : Log) → whole_log old ≡ Some log → (steps : List LogStep) (lines : List (List ℕ)) → AllByRecursion (IsWritable program) steps
       → HaveListings log.version (next_number log) steps → TellSteps program (next_number log) steps lines → ReadsSteps program number lines old log steps
-  steps_told number old log whole [] lines are listed told = record {
-    read = [];
-    say = tt;
-    front = old;
-    whole = subst (λ read. whole_log old ≡ Some (record log { steps = read })) (sym (append-nil log.steps)) whole;
-    leads = subst (λ lines. Leads program number lines old old) (sym told) refl;
-  }
+  steps_told number old log whole [] lines are listed told = grind (arith, whole_log old, append-nil log.steps, log.steps)
   steps_told number old log whole (step ∷ steps) lines are listed told =
       let remarks = told.0 in
       let later = told.1 in

@@ -73,30 +73,15 @@ module _ (program : Parts) (log : Log) (rule : Rule) where
   stage_read : (n : ℕ) (step : LogStep) (next : Option ℕ) → rule.next ≡ next → slice_get program.rules step.offer.rule ≡ Some rule → step.stage ≡ None → length step.proofs ≡ length rule.backs
       → ((stage : ℕ) → next ≡ Some stage → stage < length program.stages)
       → Leads program n (stage_texts program next) (with_step rule log step) (with_own log (record step { stage = next }))
-  stage_read n step None is numbered no_stage all within =
-      let full : nat_le (length rule.backs) (length step.proofs) ≡ true = le-leb (length rule.backs) (length step.proofs) (omega arith) in
-      let own : has_own_lines rule step ≡ true = own_all rule.next step.stage (nat_le (length rule.backs) (length step.proofs)) full is in
-      ap (λ stage. with_own log (record step { stage = stage })) (sym no_stage) ∙ sym (joined_own step own)
-  stage_read n step (Some stage) is numbered no_stage all within =
-      let full : nat_le (length rule.backs) (length step.proofs) ≡ true = le-leb (length rule.backs) (length step.proofs) (omega arith) in
-      let lacks : has_own_lines rule step ≡ false = own_unstaged rule.next step.stage (nat_le (length rule.backs) (length step.proofs)) stage is no_stage in
-      let staged : LogStep = record step { stage = Some stage } in
-      let own : has_own_lines rule (record step { stage = Some stage }) ≡ true = own_staged rule.next (nat_le (length rule.backs) (length step.proofs)) stage full in (
-        with_step rule log (record step { stage = Some stage }),
-        subst (λ so_far. MovesOn program n (stage_text program stage) so_far (with_step rule log (record step { stage = Some stage }))) (sym (joined_within step lacks))
-            (inr ((λ e. omega arith), record { rule = rule; numbered = numbered; own = inr (stage, omega arith, record { in_range = within stage refl; written = refl }, refl) })),
-        sym (joined_own (record step { stage = Some stage }) own),
-      )
+  stage_read n step None is numbered no_stage all within = grind (arith, le-leb, own_all, joined_own, rule.backs, step.proofs, rule.next, step.stage)
+  stage_read n step (Some stage) is numbered no_stage all within = grind (arith, le-leb, own_unstaged, own_staged, joined_within, joined_own, rule.backs, step.proofs, rule.next, step.stage)
 
   -- the derivations that are left, and the stage
   own_read : (n : ℕ) (step : LogStep) (left : List ProofTree) → slice_get program.rules step.offer.rule ≡ Some rule → step.stage ≡ None → length step.proofs + length left ≡ length rule.backs
       → AllByRecursion (IsReadable program) left → ((stage : ℕ) → rule.next ≡ Some stage → stage < length program.stages)
       → Leads program n (map (by_text program) left ++ stage_texts program rule.next) (with_step rule log step)
       (with_own log (record step { proofs = step.proofs ++ left; stage = rule.next }))
-  own_read n step [] numbered no_stage all readable within =
-      let none : length {A = ProofTree} [] ≡ 0 = refl in
-      subst (λ proofs. Leads program n (stage_texts program rule.next) (with_step rule log step) (with_own log (record step { proofs = proofs; stage = rule.next }))) (sym (append-nil step.proofs))
-      (stage_read n step rule.next refl numbered no_stage (omega arith) within)
+  own_read n step [] numbered no_stage all readable within = grind (arith, append-nil, stage_read, rule.next, step.proofs)
   own_read n step (proof ∷ left) numbered no_stage all readable within =
       let few : length step.proofs < length rule.backs = omega arith in
       let lacks : has_own_lines rule step ≡ false = own_lacks rule.next step.stage (nat_le (length rule.backs) (length step.proofs)) (lt-leb (length rule.backs) (length step.proofs) few) in
