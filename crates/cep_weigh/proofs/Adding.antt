@@ -22,9 +22,7 @@ added f [] = pos 0
 added f (x ∷ xs) = f x +ℤ added f xs
 
 added_last : {X : Type 0} (f : X → ℤ) (xs : List X) (x : X) → added f (xs ++ x ∷ []) ≡ added f xs +ℤ f x
-added_last f [] x = swap (f x) where
-  swap : (a : ℤ) → a +ℤ pos 0 ≡ pos 0 +ℤ a
-  swap a = omega (arith, ints)
+added_last f [] x = grind (arith, ints)
 added_last f (y ∷ xs) x = group (f y) (added f (xs ++ x ∷ [])) (added f xs) (f x) (added_last f xs x) where
   group : (a b c d : ℤ) → b ≡ c +ℤ d → a +ℤ b ≡ (a +ℤ c) +ℤ d
   group a b c d e = omega (arith, ints)
@@ -38,13 +36,7 @@ used parts premise = if premise.kept then pos 0 else factor_of parts premise.ato
 
 pub used_is : (parts : List Part) (premises : List PremiseTree) → added (used parts) premises ≡ factors_of parts (map (λ premise. premise.atom.pred) (filter (λ premise. not premise.kept) premises))
 used_is parts [] = refl
-used_is parts (premise ∷ premises) = by premise.kept (used_is parts premises) where
-  by : (k : Bool) → added (used parts) premises ≡ factors_of parts (map (λ p. p.atom.pred) (filter (λ p. not p.kept) premises))
-      → (if k then pos 0 else factor_of parts premise.atom.pred) +ℤ added (used parts) premises ≡ factors_of parts (map (λ p. p.atom.pred) (cond (not k) (premise ∷ filter (λ p. not p.kept) premises) (filter (λ p. not p.kept) premises)))
-  by true rest = nothing (added (used parts) premises) ∙ rest where
-    nothing : (a : ℤ) → pos 0 +ℤ a ≡ a
-    nothing a = omega (arith, ints)
-  by false rest = ap (λ z. factor_of parts premise.atom.pred +ℤ z) rest
+used_is parts (premise ∷ premises) = grind (arith, ints, premise.kept, used_is parts premises, premise.atom.pred)
 
 pub made_is : (parts : List Part) (atoms : List AtomTree) → added (λ a. factor_of parts a.pred) atoms ≡ factors_of parts (map (λ a. a.pred) atoms)
 made_is parts [] = refl
@@ -71,30 +63,14 @@ pub record IsWithin (n : ℕ) (z : ℤ) : Type 0 where
 
 pub product_within : (f : ℤ) (n : ℕ) → neg_ℤ (pos 1000000) ≤ℤ f → f ≤ℤ pos 1000000 → IsWithin n (f *ℤ pos n)
 product_within f zero low high = subst (IsWithin 0) (sym (scaled_none f)) (record { low = omega (arith, ints); high = omega (arith, ints) })
-product_within f (suc n) low high =
-    let rest = product_within f n low high in
-    subst (IsWithin (suc n)) (sym (ap (λ (k : ℕ). f *ℤ pos k) (one n) ∙ scaled f n 1 ∙ ap (λ w. (f *ℤ pos n) +ℤ w) (scaled_one f))) (more (f *ℤ pos n) rest.low rest.high)
-  where
-    one : (m : ℕ) → suc m ≡ m + 1
-    one m = omega arith
-
-    more : (z : ℤ) → neg_ℤ (pos (1000000 * n)) ≤ℤ z → z ≤ℤ pos (1000000 * n) → IsWithin (suc n) (z +ℤ f)
-    more z l h = record { low = omega (arith, ints); high = omega (arith, ints) }
+product_within f (suc n) low high = grind (arith, scaled, scaled_one, ints, product_within f n low high)
 
 pub worth_within : (f from : ℤ) (n : ℕ) → SFits w64 f → from ≡ pos n → n < 2 ^ 32 → neg_ℤ (pos 1000000) ≤ℤ f → f ≤ℤ pos 1000000 → IsWithin n (to_z w64 (of_z w64 (to_z w64 (of_z w64 f) *ℤ to_z w64 (of_z w64 from))))
-worth_within f from n fits' is small low high =
-    let within = product_within f n low high in
-    let right : to_z w64 (of_z w64 from) ≡ pos n = omega (arith, ints) in
-    subst (λ z. IsWithin n (to_z w64 (of_z w64 z))) (sym (λ i. to_z-of_z w64 f fits' i *ℤ right i)) (plain (f *ℤ pos n) within.low within.high)
-  where
-    plain : (z : ℤ) → neg_ℤ (pos (1000000 * n)) ≤ℤ z → z ≤ℤ pos (1000000 * n) → IsWithin n (to_z w64 (of_z w64 z))
-    plain z l h = record { low = omega (arith, ints); high = omega (arith, ints) }
+worth_within f from n fits' is small low high = grind (arith, product_within f n low high, ints, to_z-of_z)
 
 -- what the copies of one predicate weigh
 weighed_some : (parts : List Part) (pred n : ℕ) → weighed parts (λ p. cond (pred == p) n 0) ≡ factor_of parts pred *ℤ pos n
-weighed_some [] pred n = sym (nothing n) where
-  nothing : (n : ℕ) → pos 0 *ℤ pos n ≡ pos 0
-  nothing n = omega (arith, ints)
+weighed_some [] pred n = grind (arith, ints)
 weighed_some (part ∷ parts) pred n = (λ i. one i +ℤ weighed_some parts pred n i) ∙ sym (doubled (cond (part.pred == pred) part.factor (pos 0)) (factor_of parts pred) n)
   where
     none : pos 0 ≡ pos 0 *ℤ pos n
@@ -156,6 +132,4 @@ first_fits (part ∷ parts) d some factors = fits part.factor factors.0
 
 -- a test that failed
 pub unwanted : (b : Bool) (claim : Claim) (left right : ℤ) → SFits w64 left → SFits w64 right → (IsTrue b ↔ Wants claim (to_z w64 (of_z w64 left)) (to_z w64 (of_z w64 right))) → b ≡ false → ¬ Wants claim left right
-unwanted b claim left right l r tells is wants =
-    let yes : b ≡ true = tells.1 (subst (λ z. Wants claim z (to_z w64 (of_z w64 right))) (sym (to_z-of_z w64 left l)) (subst (λ z. Wants claim left z) (sym (to_z-of_z w64 right r)) wants)) in
-    absurd (cc (yes, is))
+unwanted b claim left right l r tells is wants = grind (arith, to_z-of_z, tells.1)

@@ -68,11 +68,7 @@ entries_once test bag = finite.entries-from_sorted atom_cmp (map (held_entry tes
 -- a predicate of which no atom is held once has all its copies
 module _ (test : AtomTree → Bool) (pred : ℕ) (apart : (a : AtomTree) → of_pred pred a ≡ true → test a ≡ false) where
   held_copies : (a : AtomTree) (n : ℕ) → worth_if (of_pred pred) a (held (test a) n) ≡ worth_if (of_pred pred) a n
-  held_copies a n = by (of_pred pred a) refl
-    where
-      by : (t : Bool) → of_pred pred a ≡ t → cond t (held (test a) n) 0 ≡ cond t n 0
-      by true is = ap (λ s. held s n) (apart a is)
-      by false is = refl
+  held_copies a n = grind arith
 
   copies_held : (es : List (AtomTree × ℕ)) → sum_by (λ e. cond (of_pred pred e.0) e.1 0) (map (held_entry test) es) ≡ sum_by (λ e. cond (of_pred pred e.0) e.1 0) es
   copies_held [] = refl

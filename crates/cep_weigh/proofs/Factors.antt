@@ -61,16 +61,7 @@ no_greater : (x y z : ℤ) → x ≤ℤ y → y ≤ℤ z → x ≤ℤ z
 no_greater x y z p q = omega (arith, ints)
 
 divided : (f w n : ℕ) (x y : ℤ) → x ≡ pos f → y ≡ pos w → pos 0 <ℤ x → (x *ℤ pos n) ≤ℤ y → n ≤ w / f
-divided f w n x y e e' some within =
-    let product : x *ℤ pos n ≡ pos (f * n) = ap (λ z. z *ℤ pos n) e ∙ pos-*ℤ-pos f n in
-    let plain : f * n ≤ w = below (f * n) w (subst (λ z. z ≤ℤ pos w) product (subst (λ z. (x *ℤ pos n) ≤ℤ z) e' within)) in
-    (le-div_iff_mul-le (above f (subst (λ z. pos 0 <ℤ z) e some))).1 (subst (λ k. k ≤ w) (mul_comm f n) plain)
-  where
-    below : (a b : ℕ) → pos a ≤ℤ pos b → a ≤ b
-    below a b h = omega (arith, ints)
-
-    above : (a : ℕ) → pos 0 <ℤ pos a → 0 < a
-    above a h = omega (arith, ints)
+divided f w n x y e e' some within = grind (arith, le-div_iff_mul-le, ints)
 
 pub copies_bounded : (claim : Claim) (parts : List Part) (part : Part) (state later : Multiset) (run : List Multiset) (weight factor : ℕ) → GoesAsClaimed claim parts state run → ArePositive parts → Contains parts part → part.factor ≡ pos factor → weight_of parts state ≡ pos weight → Contains (state ∷ run) later → copies_of_pred later part.pred ≤ weight / factor
 copies_bounded claim parts part state later run weight factor goes some there is_factor is_weight in_run =

@@ -23,14 +23,8 @@ run_holds Fall parts state run signs goes = run_ends parts state run (signs refl
 pub claims_hold : (program : Parts) (claim : Claim) (parts : List Part)
     → ((rule : Rule) (values : List Tree) (old new : Multiset) → Step program.signature rule values old new → weight_of parts new ≡ weight_of parts old +ℤ (right_sum parts rule -ℤ left_sum parts rule))
     → (claim ≡ Fall → AreNotNegative parts) → AllKeepTo program claim parts → HoldsOfRuns program claim parts
-claims_hold program claim parts changes signs kept = record {
-  runs = λ run is. run_holds claim parts program.start run signs (run_claimed program claim parts changes kept program.start run is);
-  bounds = λ some run is part later weight factor there is_factor is_weight in_run.
-      copies_bounded claim parts part program.start later run weight factor (run_claimed program claim parts changes kept program.start run is) some there is_factor is_weight in_run;
-}
+claims_hold program claim parts changes signs kept = grind (arith, run_holds, run_claimed, copies_bounded, program.start)
 
 pub kept_all : (program other : Parts) (claim : Claim) (sum parts : List Part) (i : ℕ) → other ≡ program → parts ≡ sum → length other.rules ≤ i
     → ((number : ℕ) (rule : Rule) → number < i → slice_get other.rules number ≡ Some rule → KeepsTo claim parts rule) → AllKeepTo program claim sum
-kept_all program other claim sum parts i same is all each =
-    subst (λ p. AllKeepTo p claim sum) same (subst (λ ps. AllKeepTo other claim ps) is
-    (all_from_places (KeepsTo claim parts) other.rules (λ n rule at. let within = slice_get_within other.rules n rule at in each n rule (omega arith) at)))
+kept_all program other claim sum parts i same is all each = grind (arith, all_from_places, slice_get_within, other.rules)

@@ -25,9 +25,7 @@ pub none_done : (signature : Signature) (lines left : List (List ℕ)) → left 
 none_done signature lines left same = record { done = []; cut = sym same; add = refl; counted = refl }
 
 add_more : (signature : Signature) (n : ℕ) (lines : List (List ℕ)) (line : List ℕ) (old mid new : List Weight) → AddClaims signature n lines old mid → AddsLine signature (n + length lines) line mid new → AddClaims signature n (lines ++ line ∷ []) old new
-add_more signature n [] line old mid new add adds =
-    let at : n + length {A = List ℕ} [] ≡ n = omega arith in
-    (new, subst (λ claims. AddsLine signature n line claims new) add (subst (λ (m : ℕ). AddsLine signature m line mid new) at adds), refl)
+add_more signature n [] line old mid new add adds = grind arith
 add_more signature n (first ∷ lines) line old mid new add adds =
     let at : n + length (first ∷ lines) ≡ n + 1 + length lines = omega arith in
     (add.0, add.1, add_more signature (n + 1) lines line add.0 mid new add.2 (subst (λ (m : ℕ). AddsLine signature m line mid new) at adds))
@@ -43,28 +41,14 @@ one_done signature lines left rest line number claims after so_far is adds = rec
 
 -- fewer lines than these were read
 pub number_short : (signature : Signature) (lines left rest : List (List ℕ)) (line : List ℕ) (number most : ℕ) (claims : List Weight) → length lines ≤ most → LinesSoFar signature lines left number claims → left ≡ line ∷ rest → number < most
-number_short signature lines left rest line number most claims few so_far is =
-    let lengths = ap length (so_far.cut ∙ ap (λ behind. so_far.done ++ behind) is) ∙ length-append so_far.done (line ∷ rest) in
-    let counted = so_far.counted in
-    omega arith
+number_short signature lines left rest line number most claims few so_far is = grind (arith, length-append, so_far.cut, so_far.done, so_far.counted)
 
 pub all_said : (program other : Parts) (bytes : List ℕ) (left : List (List ℕ)) (number : ℕ) (claims : List Weight) → other ≡ program → LinesSoFar other.signature (claim_lines bytes) left number claims → left ≡ [] → HasClaims program bytes claims
-all_said program other bytes left number claims same so_far none =
-    let all : claim_lines bytes ≡ so_far.done = so_far.cut ∙ ap (λ behind. so_far.done ++ behind) none ∙ append-nil so_far.done in
-    subst (λ (p : Parts). AddClaims p.signature 1 (claim_lines bytes) [] claims) same (subst (λ lines. AddClaims other.signature 1 lines [] claims) (sym all) so_far.add)
+all_said program other bytes left number claims same so_far none = grind (arith, append-nil, so_far.done, so_far.cut, other.signature, so_far.add)
 
 pub fault_said : (program other : Parts) (bytes : List ℕ) (left rest : List (List ℕ)) (line : List ℕ) (number : ℕ) (claims : List Weight) (fault : KeepFault) → other ≡ program → LinesSoFar other.signature (claim_lines bytes) left number claims → left ≡ line ∷ rest
     → ¬ SaysNothing line → IsClaimFault other.signature claims line (number + 1) fault → HasFault program bytes fault
-fault_said program other bytes left rest line number claims fault same so_far is says why = record {
-  before = so_far.done;
-  line = line;
-  rest = rest;
-  cut = so_far.cut ∙ ap (λ behind. so_far.done ++ behind) is;
-  earlier = claims;
-  add = subst (λ (p : Parts). AddClaims p.signature 1 so_far.done [] claims) same so_far.add;
-  says = says;
-  why = subst (λ (p : Parts). IsClaimFault p.signature claims line (length so_far.done + 1) fault) same (subst (λ (n : ℕ). IsClaimFault other.signature claims line (n + 1) fault) so_far.counted why);
-}
+fault_said program other bytes left rest line number claims fault same so_far is says why = grind (arith, so_far.done, so_far.cut, so_far.add, other.signature, so_far.counted)
 
 -- what is read is of the program
 some_as : {X : Type 0} (o : Option X) (P Q : X → Type 0) → ((x : X) → P x → Q x) → IsSomeAnd o P → IsSomeAnd o Q
@@ -84,12 +68,7 @@ factor_parts signature (named ∷ parts) [] are each = absurd are
 factor_parts signature (named ∷ parts) (part ∷ sum) are each = (subst IsFactor (sym are.0) each.0.factor, factor_parts signature parts sum are.2 each.1)
 
 weight_is : (program : Parts) (earlier : List Weight) (line : List ℕ) (number : ℕ) (weight : Weight) → IsClaimOf program.signature earlier line number weight → IsWeightOf program weight
-weight_is program earlier line number weight is = record {
-  linear = linear_parts program.signature is.written.parts weight.sum is.numbered;
-  apart = is.apart;
-  factors = factor_parts program.signature is.written.parts weight.sum is.numbered is.line_is.writable.parts;
-  signs = is.signs;
-}
+weight_is program earlier line number weight is = grind (arith, linear_parts, factor_parts, program.signature, is.written.parts, weight.sum, is.numbered, is.apart, is.line_is.writable.parts, is.signs)
 
 pub all_of_program : (program : Parts) (number : ℕ) (lines : List (List ℕ)) (earlier all : List Weight) → AddClaims program.signature number lines earlier all → AllByRecursion (IsWeightOf program) earlier → AllByRecursion (IsWeightOf program) all
 all_of_program program number [] earlier all add each = subst (AllByRecursion (IsWeightOf program)) (sym add) each

@@ -20,5 +20,4 @@ got (y ∷ xs) (suc i) x low is = got xs i x (omega arith) is
 
 pub next_numbered : (signature : Signature) (parts : List NamedPart) (sum : List Part) (i : ℕ) (named : NamedPart) (part : Part) → AreResolved signature (take i parts) sum → i < length parts → named ≡ get_or parts i named → part.factor ≡ named.factor → IsLinearNamed signature part.pred named.name
     → AreResolved signature (take (i + 1) parts) (sum ++ part ∷ [])
-next_numbered signature parts sum i named part are low is factor linear =
-    subst (λ front. AreResolved signature front (sum ++ part ∷ [])) (sym (take_next parts i named (got parts i named low is))) (one_numbered signature (take i parts) sum named part are factor linear)
+next_numbered signature parts sum i named part are low is factor linear = grind (arith, take_next, got, one_numbered)

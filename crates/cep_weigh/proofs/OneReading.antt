@@ -36,17 +36,7 @@ begins claim.Most = refl
 begins claim.Fall = refl
 
 one_word : (one other : Claim) → claim_word one ≡ claim_word other → one ≡ other
-one_word one other e = by one other (sym (begins one) ∙ ap head_of e ∙ begins other) where
-  by : (c d : Claim) → first_byte c ≡ first_byte d → c ≡ d
-  by claim.Keep claim.Keep same = refl
-  by claim.Keep claim.Most same = absurd (let h : 107 ≡ 109 = same in omega arith)
-  by claim.Keep claim.Fall same = absurd (let h : 107 ≡ 102 = same in omega arith)
-  by claim.Most claim.Keep same = absurd (let h : 109 ≡ 107 = same in omega arith)
-  by claim.Most claim.Most same = refl
-  by claim.Most claim.Fall same = absurd (let h : 109 ≡ 102 = same in omega arith)
-  by claim.Fall claim.Keep same = absurd (let h : 102 ≡ 107 = same in omega arith)
-  by claim.Fall claim.Most same = absurd (let h : 102 ≡ 109 = same in omega arith)
-  by claim.Fall claim.Fall same = refl
+one_word one other e = grind (arith, begins)
 
 one_sum : (first : Bool) (parts others : List NamedPart) → AllByRecursion IsNamedPart parts → AllByRecursion IsNamedPart others → parts_words first parts ≡ parts_words first others → parts ≡ others
 one_sum first [] [] each each' e = refl
@@ -102,8 +92,7 @@ module _ (signature : Signature) (differ : AllDiffer (map (λ decl. decl.name) s
       λ i. same i ∷ rest i
 
   sum_of_line : (line : List ℕ) (one other : Written) (sum sum' : List Part) → IsWrittenAs line one → IsWrittenAs line other → AreResolved signature one.parts sum → AreResolved signature other.parts sum' → sum ≡ sum'
-  sum_of_line line one other sum sum' is is' are are' =
-      one_numbering other.parts sum sum' (subst (λ (w : Written). AreResolved signature w.parts sum) (one_written line one other is is') are) are'
+  sum_of_line line one other sum sum' is is' are are' = grind (arith, one_numbering, one_written, other.parts)
 
   -- a line says one claim
   one_claim : (earlier : List Weight) (line : List ℕ) (number : ℕ) (one other : Weight) → IsClaimOf signature earlier line number one → IsClaimOf signature earlier line number other → one ≡ other
@@ -143,8 +132,7 @@ module _ (signature : Signature) (differ : AllDiffer (map (λ decl. decl.name) s
 
   twice_too : (earlier : List Weight) (line : List ℕ) (one other : IsResolvedLine signature line) → SaysTwice earlier one → SaysTwice earlier other
   twice_too earlier line one other (inl named) = inl (subst (λ (w : Written). IsNamedBefore earlier w.name) (one_written line one.written other.written one.line_is other.line_is) named)
-  twice_too earlier line one other (inr never) =
-      inr (λ apart. never (subst HaveOwnPredicates (sym (sum_of_line line one.written other.written one.sum other.sum one.line_is other.line_is one.numbered other.numbered)) apart))
+  twice_too earlier line one other (inr never) = grind (arith, sum_of_line, one.written, other.written, one.sum, other.sum, one.line_is, other.line_is, one.numbered, other.numbered)
 
   known_of : (earlier : List Weight) (line : List ℕ) (number : ℕ) (weight : Weight) → IsClaimOf signature earlier line number weight → IsResolvedLine signature line
   known_of earlier line number weight is = record { written = is.written; line_is = is.line_is; sum = weight.sum; numbered = is.numbered }
@@ -196,9 +184,7 @@ module _ (signature : Signature) (differ : AllDiffer (map (λ decl. decl.name) s
   first_fault : (number : ℕ) (before before' rest rest' : List (List ℕ)) (line line' : List ℕ) (old earlier earlier' : List Weight) (one other : KeepFault)
       → before ++ line ∷ rest ≡ before' ++ line' ∷ rest' → AddClaims signature number before old earlier → AddClaims signature number before' old earlier' → ¬ SaysNothing line → ¬ SaysNothing line'
       → IsClaimFault signature earlier line (number + length before) one → IsClaimFault signature earlier' line' (number + length before') other → one ≡ other
-  first_fault number [] [] rest rest' line line' old earlier earlier' one other e a b says says' why why' =
-      one_fault earlier line (number + length {A = List ℕ} []) one other why
-      (subst (λ claims. IsClaimFault signature claims line (number + length {A = List ℕ} []) other) (b ∙ sym a) (subst (λ l. IsClaimFault signature earlier' l (number + length {A = List ℕ} []) other) (sym (heads line line' rest rest' e)) why'))
+  first_fault number [] [] rest rest' line line' old earlier earlier' one other e a b says says' why why' = grind (arith, one_fault, heads)
   first_fault number [] (first ∷ before') rest rest' line line' old earlier earlier' one other e a b says says' why why' =
       absurd (adds_or_fault old b.0 line number (number + length {A = List ℕ} []) one
       (subst (λ l. AddsLine signature number l old b.0) (sym (heads line first rest (before' ++ line' ∷ rest') e)) b.1) says
@@ -219,8 +205,7 @@ module _ (signature : Signature) (differ : AllDiffer (map (λ decl. decl.name) s
   all_or_fault : (number : ℕ) (before rest lines : List (List ℕ)) (line : List ℕ) (old earlier all : List Weight) (at : ℕ) (fault : KeepFault) → lines ≡ before ++ line ∷ rest → AddClaims signature number before old earlier → AddClaims signature number lines old all → ¬ SaysNothing line
       → IsClaimFault signature earlier line at fault → ⊥
   all_or_fault number [] rest [] line old earlier all at fault e a b says why = absurd cc
-  all_or_fault number [] rest (first ∷ lines) line old earlier all at fault e a b says why =
-      adds_or_fault old b.0 line number at fault (subst (λ l. AddsLine signature number l old b.0) (heads first line lines rest e) b.1) says (subst (λ claims. IsClaimFault signature claims line at fault) a why)
+  all_or_fault number [] rest (first ∷ lines) line old earlier all at fault e a b says why = grind (arith, adds_or_fault old b.0 line number, heads first line lines rest e, b.0, b.1)
   all_or_fault number (first ∷ before) rest [] line old earlier all at fault e a b says why = absurd cc
   all_or_fault number (first ∷ before) rest (first' ∷ lines) line old earlier all at fault e a b says why =
       let same = heads first' first lines (before ++ line ∷ rest) e in

@@ -34,10 +34,7 @@ after_all (part ∷ parts) = refl
 
 one_more : (first : Bool) (parts : List NamedPart) (part : NamedPart) → parts_words first (parts ++ part ∷ []) ≡ parts_words first parts ++ (mark_of (after first parts) ∷ signed_decimal part.factor ∷ part.name ∷ [])
 one_more first [] part = refl
-one_more first (other ∷ parts) part = ap (λ rest. mark_of first ∷ signed_decimal other.factor ∷ other.name ∷ rest) (one_more false parts part ∙ ap (λ b. parts_words false parts ++ (mark_of b ∷ signed_decimal part.factor ∷ part.name ∷ [])) (same parts)) where
-  same : (parts : List NamedPart) → after false parts ≡ false
-  same [] = refl
-  same (part ∷ parts) = refl
+one_more first (other ∷ parts) part = grind (arith, other.factor, other.name, one_more false parts part, part.factor, part.name)
 
 regroup : {X : Type 0} (xs : List X) (a b c : X) (ys : List X) → (xs ++ (a ∷ b ∷ c ∷ [])) ++ ys ≡ xs ++ (a ∷ b ∷ c ∷ ys)
 regroup [] a b c ys = refl
@@ -45,12 +42,7 @@ regroup (x ∷ xs) a b c ys = ap (λ zs. x ∷ zs) (regroup xs a b c ys)
 
 pub part_read : (words : List (List ℕ)) (parts : List NamedPart) (left rest : List (List ℕ)) (mark factor name : List ℕ) (part : NamedPart) → PartsSoFar words parts left → left ≡ mark ∷ factor ∷ name ∷ rest
     → mark ≡ mark_of (is_first parts) → IsNamedPart part → factor ≡ signed_decimal part.factor → name ≡ part.name → PartsSoFar words (parts ++ part ∷ []) rest
-part_read words parts left rest mark factor name part so_far is marked named spelled called = record {
-  each = both_all IsNamedPart parts (part ∷ []) so_far.each (named, tt);
-  cut =
-      so_far.cut ∙ ap (λ behind. parts_words true parts ++ behind) (is ∙ (λ i. (marked ∙ sym (ap mark_of (after_all parts))) i ∷ spelled i ∷ called i ∷ rest))
-      ∙ sym (regroup (parts_words true parts) _ _ _ rest) ∙ ap (λ front. front ++ rest) (sym (one_more true parts part));
-}
+part_read words parts left rest mark factor name part so_far is marked named spelled called = grind (arith, both_all, after_all, regroup, one_more, so_far.each, so_far.cut)
 
 -- The words that are left are those of further parts, if all are those of parts.
 pub record IsLeft (parts : List NamedPart) (left : List (List ℕ)) : Type 0 where
@@ -78,9 +70,7 @@ left_by first (part ∷ parts) (other ∷ all) left each e =
     same (part ∷ parts) = refl
 
 pub left_is : (words : List (List ℕ)) (parts all : List NamedPart) (left : List (List ℕ)) → PartsSoFar words parts left → AllByRecursion IsNamedPart all → words ≡ parts_words true all → IsLeft parts left
-left_is words parts all left so_far each e =
-    let rest = left_by true parts all left each (sym so_far.cut ∙ e) in
-    record { further = rest.further; each = rest.each; words = rest.words ∙ ap (λ b. parts_words b rest.further) (after_all parts) }
+left_is words parts all left so_far each e = grind (arith, left_by true parts all left each (sym so_far.cut ∙ e), after_all parts, so_far.cut)
 
 -- No parts have all these words, where what is left is neither nothing nor begins with a part.
 pub stuck : (words : List (List ℕ)) (parts all : List NamedPart) (left : List (List ℕ)) → PartsSoFar words parts left → AllByRecursion IsNamedPart all → words ≡ parts_words true all

@@ -28,11 +28,7 @@ of_pred pred a = a.pred == pred
 
 -- no atom of it is a fact
 pub linear_is_no_fact : (signature : Signature) (pred : ℕ) → IsLinear signature pred → (a : AtomTree) → of_pred pred a ≡ true → is_fact signature a ≡ false
-linear_is_no_fact signature pred linear a is = by (slice_get signature.preds a.pred) (subst (IsLinear signature) (sym (eqb-true a.pred pred is)) linear)
-  where
-    by : (found : Option PredDecl) → IsSomeAnd found (λ decl. decl.kind ≡ Linear) → unwrap_or (option_map (λ decl. is_of_facts decl.kind) found) false ≡ false
-    by None there = absurd there
-    by (Some decl) there = ap is_of_facts there
+linear_is_no_fact signature pred linear a is = grind (arith, eqb-true, signature.preds, a.pred)
 
 -- an instance has the predicate of its pattern
 instance_preds : (values : List Tree) (pred : ℕ) (atoms : List AtomTree) → count_by (of_pred pred) (full_instances values atoms) ≡ count_by (of_pred pred) atoms
@@ -44,11 +40,7 @@ instance_preds values pred (a ∷ atoms) =
 
 module _ (laws : BagLaws) (signature : Signature) (pred : ℕ) (linear : IsLinear signature pred) where
   side_copies : (values : List Tree) (atoms : List AtomTree) (rest : Multiset) → copies_of_pred (once (is_fact signature) (sum_of (once (is_fact signature) (gathered (full_instances values atoms))) rest)) pred ≡ count_by (of_pred pred) atoms + copies_of_pred rest pred
-  side_copies values atoms rest =
-      let apart = linear_is_no_fact signature pred linear in
-      copies_once (is_fact signature) pred apart _
-      ∙ copies_sum laws (once (is_fact signature) (gathered (full_instances values atoms))) rest pred
-      ∙ ap (λ n. n + copies_of_pred rest pred) (copies_once (is_fact signature) pred apart _ ∙ copies_gathered laws (full_instances values atoms) pred ∙ instance_preds values pred atoms)
+  side_copies values atoms rest = grind (arith, linear_is_no_fact signature pred linear, copies_once, copies_sum laws (once (is_fact signature) (gathered (full_instances values atoms))) rest pred, copies_gathered laws (full_instances values atoms) pred, instance_preds values pred atoms)
 
   abbrev atom_in : PremiseTree → AtomTree
   atom_in premise = premise.atom
@@ -88,8 +80,4 @@ module _ (laws : BagLaws) (signature : Signature) (pred : ℕ) (linear : IsLinea
 
   -- a step takes what is used up, and puts what is made
   pub step_copies : (rule : Rule) (values : List Tree) (old new : Multiset) → Step signature rule values old new → copies_of_pred new pred + used_of rule pred ≡ copies_of_pred old pred + made_of rule pred
-  step_copies rule values old new step =
-      let before : copies_of_pred old pred ≡ count_by (of_pred pred) (needed_of rule) + copies_of_pred step.rest pred = ap (λ (bag : Multiset). copies_of_pred bag pred) step.before ∙ side_copies values (needed_of rule) step.rest in
-      let after : copies_of_pred new pred ≡ count_by (of_pred pred) (rule.right ++ kept_of signature rule) + copies_of_pred step.rest pred = ap (λ (bag : Multiset). copies_of_pred bag pred) step.after ∙ side_copies values (rule.right ++ kept_of signature rule) step.rest in
-      let both = sum_by-append (λ x. cond (of_pred pred x) 1 0) rule.right (kept_of signature rule) in
-      omega (arith, parted rule.premises)
+  step_copies rule values old new step = grind (arith, side_copies, sum_by-append, parted, step.rest, step.before, rule.right, step.after, rule.premises)

@@ -15,9 +15,7 @@ neg_sum x y = omega (arith, ints)
 
 pub scaled : (f : ℤ) (a b : ℕ) → f *ℤ pos (a + b) ≡ (f *ℤ pos a) +ℤ (f *ℤ pos b)
 scaled (pos m) a b = pos-*ℤ-pos m (a + b) ∙ ap pos (mul-add m a b) ∙ sym (λ i. pos-*ℤ-pos m a i +ℤ pos-*ℤ-pos m b i)
-scaled (negsuc m) a b =
-    negsuc-*ℤ-pos m (a + b) ∙ ap (λ n. neg_ℤ (pos n)) (mul-add (suc m) a b) ∙ neg_sum (suc m * a) (suc m * b)
-    ∙ sym (λ i. negsuc-*ℤ-pos m a i +ℤ negsuc-*ℤ-pos m b i)
+scaled (negsuc m) a b = grind (arith, mul-add, neg_sum)
 
 both : (x y z w x' y' z' w' : ℤ) → x +ℤ y ≡ z +ℤ w → x' +ℤ y' ≡ z' +ℤ w' → (x +ℤ x') +ℤ (y +ℤ y') ≡ (z +ℤ z') +ℤ (w +ℤ w')
 both x y z w x' y' z' w' e f = omega (arith, ints)
@@ -50,20 +48,11 @@ scaled_not_negative (negsuc m) n some = absurd (omega (arith, ints))
 
 pub weighed_not_negative : (parts : List Part) (count : ℕ → ℕ) → AreNotNegative parts → pos 0 ≤ℤ weighed parts count
 weighed_not_negative [] count all = omega (arith, ints)
-weighed_not_negative (part ∷ parts) count all =
-    let one = scaled_not_negative part.factor (count part.pred) all.0 in
-    let rest = weighed_not_negative parts count all.1 in
-    sum_not_negative _ _ one rest
-  where
-    sum_not_negative : (x y : ℤ) → pos 0 ≤ℤ x → pos 0 ≤ℤ y → pos 0 ≤ℤ (x +ℤ y)
-    sum_not_negative x y p q = omega (arith, ints)
+weighed_not_negative (part ∷ parts) count all = grind (arith, scaled_not_negative, ints, part.factor, part.pred, all.0, weighed_not_negative parts count all.1, all.1)
 
 pub positive_not_negative : (parts : List Part) → ArePositive parts → AreNotNegative parts
 positive_not_negative [] all = tt
-positive_not_negative (part ∷ parts) all = (weaker part.factor all.0, positive_not_negative parts all.1)
-  where
-    weaker : (f : ℤ) → pos 0 <ℤ f → pos 0 ≤ℤ f
-    weaker f some = omega (arith, ints)
+positive_not_negative (part ∷ parts) all = grind (arith, ints, part.factor, all.0, positive_not_negative parts all.1, all.1)
 
 -- no part is more than the whole
 pub part_within : (parts : List Part) (part : Part) (count : ℕ → ℕ) → AreNotNegative parts → Contains parts part → (part.factor *ℤ pos (count part.pred)) ≤ℤ weighed parts count

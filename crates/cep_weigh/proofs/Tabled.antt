@@ -29,18 +29,11 @@ AddsName old name number new = (other : List ℕ) → under_name new other ≡ f
 
 number_pushed : (other : List ℕ) (table : Table) (name : List ℕ) (number : ℕ) → under_name (table ++ (name, number) ∷ []) other ≡ first_number (under_name table other) (if bytes_eq other name then Some number else None)
 number_pushed other [] name number = refl
-number_pushed other (entry ∷ table) name number = by (bytes_eq other entry.0) (number_pushed other table name number) where
-  by : (b : Bool) → under_name (table ++ (name, number) ∷ []) other ≡ first_number (under_name table other) (if bytes_eq other name then Some number else None)
-      → cond b (Some entry.1) (under_name (table ++ (name, number) ∷ []) other) ≡ first_number (cond b (Some entry.1) (under_name table other)) (if bytes_eq other name then Some number else None)
-  by true rest = refl
-  by false rest = rest
+number_pushed other (entry ∷ table) name number = grind (arith, entry.0, number_pushed other table name number, entry.1)
 
 any_found : (name : List ℕ) (table : Table) → list_any (λ entry. bytes_eq name entry.0) table ≡ is_some (under_name table name)
 any_found name [] = refl
-any_found name (entry ∷ table) = by (bytes_eq name entry.0) (any_found name table) where
-  by : (b : Bool) → list_any (λ entry'. bytes_eq name entry'.0) table ≡ is_some (under_name table name) → (b || list_any (λ entry'. bytes_eq name entry'.0) table) ≡ is_some (cond b (Some entry.1) (under_name table name))
-  by true rest = refl
-  by false rest = rest
+any_found name (entry ∷ table) = grind (arith, entry.0, any_found name table, entry.1)
 
 same_bytes : (a b : List ℕ) → bytes_eq a b ≡ true → a ≡ b
 same_bytes a b e = (bytes_eq-Decides a b).0 e
@@ -59,22 +52,17 @@ adds_new : (table new : Table) (name : List ℕ) (number : ℕ) → new ≡ tabl
 adds_new table new name number is other = ap (λ t. under_name t other) is ∙ number_pushed other table name number
 
 pub adds_by : (table new : Table) (name : List ℕ) (number : ℕ) → new ≡ added table (name, number) → AddsName table name number new
-adds_by table new name number is = by (has_name table name) refl is where
-  by : (b : Bool) → has_name table name ≡ b → new ≡ (if b then table else table ++ (name, number) ∷ []) → AddsName table name number new
-  by true there same = subst (AddsName table name number) (sym same) (adds_there table name number there)
-  by false there same = adds_new table new name number same
+adds_by table new name number is = grind (arith, adds_there, adds_new)
 
 -- the linear predicates below a number
 abbrev NamedBelow : Signature → ℕ → List ℕ → Option ℕ → Type 0
 NamedBelow signature most name o = MatchOption o ((pred : ℕ) → pred < most → ¬ IsLinearNamed signature pred name) (λ pred. IsLinearNamed signature pred name)
 
 pub linear_found : (signature : Signature) (table : Table) → NamesLinear signature table → (name : List ℕ) (o : Option ℕ) (pred : ℕ) → o ≡ under_name table name → o ≡ Some pred → IsLinearNamed signature pred name
-linear_found signature table names name o pred is there =
-    let h : MatchOption (Some pred) ((p : ℕ) → ¬ IsLinearNamed signature p name) (λ p. IsLinearNamed signature p name) = subst (λ x. MatchOption x ((p : ℕ) → ¬ IsLinearNamed signature p name) (λ p. IsLinearNamed signature p name)) (sym is ∙ there) (names name) in h
+linear_found signature table names name o pred is there = grind arith
 
 pub linear_missed : (signature : Signature) (table : Table) → NamesLinear signature table → (name : List ℕ) (o : Option ℕ) → o ≡ under_name table name → o ≡ None → (pred : ℕ) → ¬ IsLinearNamed signature pred name
-linear_missed signature table names name o is none =
-    let h : MatchOption None ((p : ℕ) → ¬ IsLinearNamed signature p name) (λ p. IsLinearNamed signature p name) = subst (λ x. MatchOption x ((p : ℕ) → ¬ IsLinearNamed signature p name) (λ p. IsLinearNamed signature p name)) (sym is ∙ none) (names name) in h
+linear_missed signature table names name o is none = grind arith
 
 pub below_none : (signature : Signature) → NamesLinearBelow signature 0 []
 below_none signature name pred low = absurd (omega arith)
@@ -87,28 +75,10 @@ to_named signature i decl name at named linear = subst (λ o. IsSomeAnd o (λ d.
 
 module _ (signature : Signature) (i : ℕ) (decl : PredDecl) (at : slice_get signature.preds i ≡ Some decl) where
   pub below_other : (table : Table) → (decl.kind ≡ Linear → ⊥) → NamesLinearBelow signature i table → NamesLinearBelow signature (i + 1) table
-  below_other table other below name = by (under_name table name) (below name) where
-    by : (o : Option ℕ) → MatchOption o ((pred : ℕ) → pred < i → ¬ IsLinearNamed signature pred name) (λ pred. IsLinearNamed signature pred name)
-        → MatchOption o ((pred : ℕ) → pred < i + 1 → ¬ IsLinearNamed signature pred name) (λ pred. IsLinearNamed signature pred name)
-    by (Some n) is = is
-    by None never = λ pred low named.
-        ⊎_elim (λ (less : pred < i). never pred less named)
-        (λ (most : i ≤ pred). let same : pred ≡ i = omega arith in other (named_at signature i decl name at (subst (λ p. IsLinearNamed signature p name) same named)).1)
-        (cases_lt pred i)
+  below_other table other below name = grind (arith, named_at, cases_lt)
 
   pub below_linear : (old new : Table) → decl.kind ≡ Linear → AddsName old decl.name i new → NamesLinearBelow signature i old → NamesLinearBelow signature (i + 1) new
-  below_linear old new linear adds below name = subst (NamedBelow signature (i + 1) name) (sym (adds name)) (by (under_name old name) (below name) (bytes_eq name decl.name) refl) where
-    by : (o : Option ℕ) → MatchOption o ((pred : ℕ) → pred < i → ¬ IsLinearNamed signature pred name) (λ pred. IsLinearNamed signature pred name)
-        → (b : Bool) → bytes_eq name decl.name ≡ b → NamedBelow signature (i + 1) name (first_number o (if b then Some i else None))
-    by (Some n) is b same = is
-    by None never true same = to_named signature i decl name at (sym (same_bytes name decl.name same)) linear
-    by None never false same = λ pred low named.
-        ⊎_elim (λ (less : pred < i). never pred less named)
-        (λ (most : i ≤ pred).
-        let is : pred ≡ i = omega arith in
-        let here = named_at signature i decl name at (subst (λ p. IsLinearNamed signature p name) is named) in
-        false≢true (sym same ∙ (bytes_eq-Decides name decl.name).1 (sym here.0)))
-        (cases_lt pred i)
+  below_linear old new linear adds below name = grind (arith, to_named, same_bytes, named_at, bytes_eq-Decides, cases_lt, decl.name)
 
 pub below_all : (signature : Signature) (table : Table) → NamesLinearBelow signature (length signature.preds) table → NamesLinear signature table
 below_all signature table below name = by (under_name table name) (below name) where
@@ -127,15 +97,8 @@ pub no_claims : NamesClaims [] []
 no_claims name = ((λ found. absurd (false≢true found)), (λ there. absurd (contains_none name there)))
 
 has_pushed : (name : List ℕ) (table : Table) (other : List ℕ) (number : ℕ) → has_name (table ++ (other, number) ∷ []) name ≡ (has_name table name || bytes_eq name other)
-has_pushed name [] other number = by (bytes_eq name other) where
-  by : (b : Bool) → (b || false) ≡ b
-  by true = refl
-  by false = refl
-has_pushed name (entry ∷ table) other number = by (bytes_eq name entry.0) (has_pushed name table other number) where
-  by : (b : Bool) → has_name (table ++ (other, number) ∷ []) name ≡ (has_name table name || bytes_eq name other)
-      → (b || has_name (table ++ (other, number) ∷ []) name) ≡ ((b || has_name table name) || bytes_eq name other)
-  by true rest = refl
-  by false rest = rest
+has_pushed name [] other number = grind arith
+has_pushed name (entry ∷ table) other number = grind (arith, entry.0, has_pushed name table other number)
 
 has_added : (name : List ℕ) (table : Table) (other : List ℕ) (number : ℕ) → has_name (added table (other, number)) name ≡ (has_name table name || bytes_eq name other)
 has_added name table other number = by (has_name table other) refl where
