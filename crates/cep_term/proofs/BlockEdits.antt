@@ -1,15 +1,13 @@
 -- Blocks of entries: what is done to the block of an atom is done to all entries.
-use Rattle.std.proofs.Common.{◌≡◌, ℕ, zero, suc, ◌+◌, ◌<◌, ◌-◌, ◌≤◌, true, false, List, [], ◌∷◌, ◌++◌, length, get_or, set, take, drop, Option, None, Some, refl, sym, ap, ◌∙◌, arith, append_assoc, length-append}
+use Rattle.std.proofs.Common.{◌≡◌, ℕ, zero, suc, ◌+◌, ◌<◌, ◌-◌, ◌≤◌, true, false, List, [], ◌∷◌, ◌++◌, length, get_or, set, take, drop, Option, None, Some, refl, ap, arith, append_assoc}
 use Rattle.std.specs.List.{AllByRecursion, insert, remove}
 use Rattle.std.specs.FinMap.Entries.{find, below_all}
 use Rattle.std.proofs.lemmas.Bool.{and_parts}
-use Rattle.std.specs.Prelude.{slice_get, IfSome}
+use Rattle.std.specs.Prelude.{slice_get}
 use Rattle.std.specs.Option.{SomeIff}
-use Rattle.std.proofs.lemmas.List.{append-nil, get_or-append-add, get_or-map, length-map, map-append, take-append-drop}
+use Rattle.std.proofs.lemmas.List.{get_or-append-add, get_or-map, length-map, map-append, take-append-drop}
 use Rattle.std.proofs.lemmas.Option.{slice_get-get_or}
-use Rattle.std.proofs.lemmas.Grind.{flat_map-append}
 use Rattle.std.proofs.lemmas.List.Concat.{get_or-flat_map}
-use Rattle.cep_base.proofs.Lists.{take_next}
 use Rattle.cep_base.proofs.SortedEntries.{greater, lesser, below_one, find_below, keep_below, below_rest, below_further}
 use Rattle.cep_term.specs.declared.blocks.Blocks.{Blocks}
 use Rattle.cep_term.specs.declared.entries.Entry.{Entry}
@@ -48,8 +46,7 @@ after_begun (e ∷ items) ys a some rising is =
 pub partitioned : (bs : List Block) (a : AtomTree) → HaveEntries bs → IsRising (later_entries bs) → (i j : ℕ) (d : Block) → i ≤ j → j < length bs
     → begins_by (entries_of (get_or bs j d).items) a ≡ true → begins_by (entries_of (get_or bs i d).items) a ≡ true
 partitioned [] a filled rising i j d le lt is = absurd (omega arith)
-partitioned (b ∷ bs) a filled rising zero zero d le lt is = is
-partitioned (b ∷ bs) a filled rising (suc i) zero d le lt is = absurd (omega arith)
+partitioned (b ∷ bs) a filled rising i zero d le lt is = let first : i ≡ 0 = omega arith in rw first is
 partitioned (b ∷ bs) a filled rising (suc i) (suc j) d le lt is = partitioned bs a filled.1 (rising_both (entries_of b.items) (later_entries bs) rising).1 i j d (omega arith) (omega arith) is
 partitioned (b ∷ []) a filled rising zero (suc j) d le lt is = absurd (omega arith)
 partitioned (b ∷ c ∷ bs) a filled rising zero (suc j) d le lt is =
@@ -104,7 +101,7 @@ set_after (x ∷ xs) ys a n after = grind (arith, set_after xs ys a n after)
 
 -- so its count in its block is that in all of them, and an edit there is one of all
 pub count_in_first : (xs ys : List Counted) (a : AtomTree) → below_all atom_cmp a ys ≡ true → find_count (xs ++ ys) a ≡ find_count xs a
-count_in_first xs ys a after = rw (find_after xs ys a after) refl
+count_in_first xs ys a after = grind (arith, find_after xs ys a after)
 
 pub count_in_later : (xs : List Counted) (bs : List Block) (a : AtomTree) (i : ℕ) (b : Block) → IsLaterFor xs bs a i → b ≡ get_or bs i b → find_count (xs ++ later_entries bs) a ≡ find_count (entries_of b.items) a
 count_in_later xs [] a i b at is = absurd at
@@ -122,8 +119,7 @@ set_in_later xs (c ∷ bs) a (suc i) n b new at is e = rw (set_before xs (later_
 
 pub in_range : (xs : List Counted) (bs : List Block) (a : AtomTree) (i : ℕ) → IsLaterFor xs bs a i → i < length bs
 in_range xs [] a i at = absurd at
-in_range xs (c ∷ bs) a zero at = omega arith
-in_range xs (c ∷ bs) a (suc i) at = let rest = in_range (entries_of c.items) bs a i at.1 in omega arith
+in_range xs (c ∷ bs) a i at = grind (arith, in_range (entries_of c.items) bs a)
 
 -- what holds of all entries holds of those of a block
 pub rising_first : (xs ys : List Counted) → IsRising (xs ++ ys) → IsRising xs
@@ -136,7 +132,7 @@ rising_at xs (c ∷ bs) (suc i) b rising lt is = rising_at (entries_of c.items) 
 
 each_both : (xs ys : List Counted) → AllByRecursion IsEntry (xs ++ ys) → AllByRecursion IsEntry xs × AllByRecursion IsEntry ys
 each_both [] ys each = (tt, each)
-each_both (x ∷ xs) ys each = let rest = each_both xs ys each.1 in ((each.0, rest.0), rest.1)
+each_both (x ∷ xs) ys each = grind (arith, each_both xs ys each.1)
 
 pub each_first : (xs ys : List Counted) → AllByRecursion IsEntry (xs ++ ys) → AllByRecursion IsEntry xs
 each_first xs ys each = (each_both xs ys each).0
@@ -149,19 +145,7 @@ each_at xs (c ∷ bs) (suc i) b each lt is = each_at (entries_of c.items) bs i b
 -- a block with the same entries takes the place of another
 pub entries_same : (bs : List Block) (i : ℕ) (b new : Block) → b ≡ get_or bs i b → entries_of new.items ≡ entries_of b.items → later_entries (set bs i new) ≡ later_entries bs
 entries_same [] i b new is same = refl
-entries_same (c ∷ bs) zero b new is same = rw (same, is) refl
-entries_same (c ∷ bs) (suc i) b new is same = ap (λ es. entries_of c.items ++ es) (entries_same bs i b new is same)
-
--- one that is not shorter, and one with an entry
-pub filled_longer : (bs : List Block) (i : ℕ) (b new : Block) → HaveEntries bs → b ≡ get_or bs i b → length b.items ≤ length new.items → HaveEntries (set bs i new)
-filled_longer [] i b new filled is long = tt
-filled_longer (c ∷ bs) zero b new filled is long = let some = filled.0 in (omega (arith, ap (λ (d : Block). length d.items) is), filled.1)
-filled_longer (c ∷ bs) (suc i) b new filled is long = (filled.0, filled_longer bs i b new filled.1 is long)
-
-pub filled_set : (bs : List Block) (i : ℕ) (new : Block) → HaveEntries bs → 0 < length new.items → HaveEntries (set bs i new)
-filled_set [] i new filled some = tt
-filled_set (b ∷ bs) zero new filled some = (some, filled.1)
-filled_set (b ∷ bs) (suc i) new filled some = (filled.0, filled_set bs i new filled.1 some)
+entries_same (c ∷ bs) i b new is same = grind (arith, entries_same bs)
 
 -- a block without entries goes
 no_items : (items : List Entry) → length items ≡ 0 → entries_of items ≡ []
@@ -170,37 +154,20 @@ no_items (e ∷ items) none = absurd (omega arith)
 
 pub entries_without : (bs : List Block) (i : ℕ) (new read : Block) → i < length bs → read ≡ get_or (set bs i new) i read → length read.items ≡ 0 → later_entries (remove (set bs i new) i) ≡ later_entries (set bs i new)
 entries_without [] i new read lt is none = absurd (omega arith)
-entries_without (b ∷ bs) zero new read lt is none = rw (no_items new.items (ap (λ (d : Block). length d.items) (sym is) ∙ none)) refl
+entries_without (b ∷ bs) zero new read lt is none = grind (arith, no_items new.items)
 entries_without (b ∷ bs) (suc i) new read lt is none = ap (λ es. entries_of b.items ++ es) (entries_without bs i new read (omega arith) is none)
 
-pub filled_without : (bs : List Block) (i : ℕ) (new : Block) → i < length bs → HaveEntries bs → HaveEntries (remove (set bs i new) i)
-filled_without [] i new lt filled = absurd (omega arith)
-filled_without (b ∷ bs) zero new lt filled = filled.1
-filled_without (b ∷ bs) (suc i) new lt filled = (filled.0, filled_without bs i new (omega arith) filled.1)
-
 -- a block is divided in two
-pub long_at : (bs : List Block) (i : ℕ) (b : Block) → i < length bs → b ≡ get_or bs i b → IfSome (slice_get bs i) (λ block. 1 < length block.items) → 1 < length b.items
-long_at bs i b lt is long = rw (slice_get-get_or bs i b lt, ← is) at long
-
 pub entries_divided : (bs : List Block) (i : ℕ) (b front rest : Block) → i < length bs → b ≡ get_or bs i b → entries_of b.items ≡ entries_of front.items ++ entries_of rest.items → later_entries (insert (set bs i front) (suc i) rest) ≡ later_entries bs
 entries_divided [] i b front rest lt is parts = absurd (omega arith)
 entries_divided (c ∷ bs) zero b front rest lt is parts = rw (← (append_assoc (entries_of front.items) (entries_of rest.items) (later_entries bs)), ← parts, is) refl
 entries_divided (c ∷ bs) (suc i) b front rest lt is parts = ap (λ es. entries_of c.items ++ es) (entries_divided bs i b front rest (omega arith) is parts)
 
-pub filled_divided : (bs : List Block) (i : ℕ) (front rest : Block) → i < length bs → HaveEntries bs → 0 < length front.items → 0 < length rest.items → HaveEntries (insert (set bs i front) (suc i) rest)
-filled_divided [] i front rest lt filled some more = absurd (omega arith)
-filled_divided (c ∷ bs) zero front rest lt filled some more = (some, (more, filled.1))
-filled_divided (c ∷ bs) (suc i) front rest lt filled some more = (filled.0, filled_divided bs i front rest (omega arith) filled.1 some more)
-
 -- at a place in it
 pub parts : (items front rest : List Entry) (n : ℕ) → front ≡ take n items → rest ≡ drop n items → entries_of items ≡ entries_of front ++ entries_of rest
 parts items front rest n left right = rw (left, right, ← (map-append entry_of (take n items) (drop n items)), take-append-drop n items) refl
 
--- the entries before a block, and the entry at a place in it
-pub length_to : (bs : List Block) (at : ℕ) (b : Block) → at < length bs → b ≡ get_or bs at b → length (later_entries (take (at + 1) bs)) ≡ length (later_entries (take at bs)) + length b.items
-length_to bs at b lt is =
-    rw (take_next bs at b (rw (slice_get-get_or bs at b lt, ← is) refl), flat_map-append (λ (c : Block). entries_of c.items) (take at bs) (b ∷ []), append-nil (entries_of b.items), length-append (later_entries (take at bs)) (entries_of b.items), length-map b.items entry_of) refl
-
+-- the entry at a place in a later block
 pub entry_here : (xs : List Counted) (bs : List Block) (at left i : ℕ) (b : Block) (x : Entry) → i < length (xs ++ later_entries bs) → i ≡ length xs + (length (later_entries (take at bs)) + left) → at < length bs → b ≡ get_or bs at b → left < length b.items
     → x ≡ get_or b.items left x → slice_get (xs ++ later_entries bs) i ≡ Some (entry_of x)
 entry_here xs bs at left i b x there place lt is within here =
@@ -216,4 +183,4 @@ entry_here xs bs at left i b x there place lt is within here =
     ) refl
 
 -- for the functions that go to the block of an atom
-pub ruleset in_block = (count_in_first, count_in_later, set_in_first, set_in_later, in_range, rising_first, rising_at, each_first, each_at, entries_same, filled_longer, filled_set, filled_without)
+pub ruleset in_block = (count_in_first, count_in_later, set_in_first, set_in_later, in_range, rising_first, rising_at, each_first, each_at, entries_same)

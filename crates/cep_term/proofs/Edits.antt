@@ -1,5 +1,5 @@
 -- Edits of a list of entries at an atom's place, as edits of the counts.
-use Rattle.std.proofs.Common.{◌≡◌, ℕ, ◌+◌, ◌<◌, Bool, true, cond, not, ◌==◌, List, [], ◌∷◌, None, unwrap_or, refl, sym, ap, subst, ◌∙◌, arith}
+use Rattle.std.proofs.Common.{◌≡◌, ℕ, ◌+◌, ◌<◌, Bool, true, cond, not, ◌==◌, List, [], ◌∷◌, None, refl, sym, ap, subst, arith}
 use Rattle.std.specs.Prelude.{sum_by, T}
 use Rattle.std.specs.List.{AllByRecursion}
 use Rattle.std.proofs.lemmas.List.Sums.{sum_by-cons}
@@ -61,10 +61,6 @@ module _ (worth : AtomTree → ℕ → ℕ) (nothing : (a : AtomTree) → worth 
 
   worth_of-cons : (e : Counted) (es : List Counted) → worth_of (e ∷ es) ≡ worth e.0 e.1 + worth_of es
   worth_of-cons e es = sum_by-cons (λ (d : Counted). worth d.0 d.1) e es
-
-  -- an atom without an entry is worth nothing
-  worth_none : (a : AtomTree) (es : List Counted) → find atom_cmp a es ≡ None → worth a (find_count es a) ≡ 0
-  worth_none a es none = ap (λ o. worth a (unwrap_or o 0)) none ∙ nothing a
 
   -- a count that is set takes the place of the old one in the sum
   worth_put : (es : List Counted) (a : AtomTree) (n : ℕ) → IsRising es → worth_of (put atom_cmp a n es) + worth a (find_count es a) ≡ worth_of es + worth a n

@@ -5,8 +5,7 @@ use Rattle.cep_term.specs.declared.entries.Entry.{Entry}
 use Rattle.cep_term.specs.Tree.{AtomTree, atom_of}
 use Rattle.cep_term.specs.Order.{atom_cmp}
 use Rattle.cep_term.specs.Multiset.{IsEntry}
-use Rattle.cep_term.specs.Entries.{entry_of, entries_of, IsRising, find_count, set_among}
-use Rattle.cep_term.specs.Entries.{IsAt, IsGapFor}
+use Rattle.cep_term.specs.Entries.{entry_of, entries_of, IsRising, find_count, set_among, IsAt, IsGapFor}
 use Rattle.cep_base.proofs.SortedEntries.{find_at, find_gap, put_at, put_gap, remove_at}
 use Rattle.cep_term.proofs.OrderLaws.{atom_cmp_total}
 use Rattle.cep_term.proofs.Edits.{on_count, without}

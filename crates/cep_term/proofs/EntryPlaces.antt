@@ -1,5 +1,5 @@
 -- The entries of a multiset by their places: their atoms rise, each has its atom's count, and each atom that is there has one.
-use Rattle.std.proofs.Common.{◌≡◌, ℕ, zero, suc, ◌<◌, Bool, true, false, cond, List, [], ◌∷◌, Option, Some, None, unwrap_or, refl, sym, ap, subst, ◌∙◌, arith}
+use Rattle.std.proofs.Common.{◌≡◌, ℕ, zero, suc, ◌<◌, true, false, cond, List, [], ◌∷◌, Some, unwrap_or, refl, ap, ◌∙◌, arith}
 use Rattle.std.specs.Prelude.{slice_get}
 use Rattle.std.specs.declared.cmp.Ordering.TheVariants.{Less}
 use Rattle.std.specs.Ordering.{eq_by_cmp}
@@ -23,7 +23,7 @@ below_at x es below j a n is = holds_at (λ later. atom_cmp x later.0 ≡ Less) 
 
 later_less : (es : List Counted) → IsRising es → (i j : ℕ) (a b : AtomTree) (m n : ℕ) → i < j → slice_get es i ≡ Some (a, m) → slice_get es j ≡ Some (b, n) → atom_cmp a b ≡ Less
 later_less [] rising i j a b m n h p q = none_some _ p
-later_less (e ∷ es) rising zero (suc j) a b m n h p q = rw (← (ap (λ z. z.0) (some_same e (a, m) p))) (below_at e.0 es (below_rest atom_cmp e es rising) j b n q)
+later_less (e ∷ es) rising zero (suc j) a b m n h p q = grind (arith, some_same e (a, m), below_at e.0 es (below_rest atom_cmp e es rising) j b n q)
 later_less (e ∷ es) rising (suc i) (suc j) a b m n h p q = later_less es (rest_sorted atom_cmp e es rising) i j a b m n (omega arith) p q
 later_less (e ∷ es) rising i zero a b m n h p q = absurd (omega arith)
 
@@ -34,7 +34,7 @@ earlier_is_less bag = later_less (finite.entries bag) (entries_rise bag)
 find_placed : (es : List Counted) → IsRising es → (j : ℕ) (a : AtomTree) (n : ℕ) → slice_get es j ≡ Some (a, n) → find atom_cmp a es ≡ Some n
 find_placed [] rising j a n is = none_some _ is
 find_placed (e ∷ es) rising zero a n is = let here = some_same e (a, n) is in rw (here, tied_itself atom_cmp_total a) refl
-find_placed (e ∷ es) rising (suc j) a n is = grind (arith, greater, atom_cmp_total, below_at, below_rest, rest_sorted, e.0, find_placed es (rest_sorted atom_cmp e es rising) j a n is)
+find_placed (e ∷ es) rising (suc j) a n is = grind (arith, greater atom_cmp atom_cmp_total, below_at, below_rest, find_placed es (rest_sorted atom_cmp e es rising) j a n is)
 
 -- the count of an atom is that of its entry
 pub entry_counted : (bag : Multiset) (i : ℕ) (a : AtomTree) (n : ℕ) → slice_get (finite.entries bag) i ≡ Some (a, n) → count_of bag a ≡ n
@@ -42,20 +42,11 @@ entry_counted bag i a n is = ap (λ o. unwrap_or o 0) (finite.get-entries bag a 
 
 place_of_find : (es : List Counted) (a : AtomTree) (n : ℕ) → find atom_cmp a es ≡ Some n → (j : ℕ) × (slice_get es j ≡ Some (a, n))
 place_of_find [] a n is = none_some _ is
-place_of_find (e ∷ es) a n is = by (eq_by_cmp atom_cmp a e.0) refl is (place_of_find es a n)
-  where
-    by : (t : Bool) → eq_by_cmp atom_cmp a e.0 ≡ t → cond t (Some e.1) (find atom_cmp a es) ≡ Some n → (find atom_cmp a es ≡ Some n → (j : ℕ) × (slice_get es j ≡ Some (a, n)))
-        → (j : ℕ) × (slice_get (e ∷ es) j ≡ Some (a, n))
-    by true tie found rest = (0, rw (tied_atoms e.0 a tie, ← (some_same e.1 n found)) refl)
-    by false tie found rest = let later = rest found in (suc later.0, later.1)
+place_of_find (e ∷ es) a n is = elim (eq_by_cmp atom_cmp a e.0) as (λ t. eq_by_cmp atom_cmp a e.0 ≡ t → cond t (Some e.1) (find atom_cmp a es) ≡ Some n → (j : ℕ) × (slice_get (e ∷ es) j ≡ Some (a, n))) [
+  | true ↦ λ tie found. (0, grind (arith, tied_atoms e.0 a))
+  | false ↦ λ tie found. let later = place_of_find es a n found in (suc later.0, later.1)
+] refl is
 
 -- an atom that is there has an entry
 pub entry_there : (bag : Multiset) (a : AtomTree) → 0 < count_of bag a → (i : ℕ) × (slice_get (finite.entries bag) i ≡ Some (a, count_of bag a))
-entry_there bag a some = by (find atom_cmp a (finite.entries bag)) refl
-  where
-    by : (o : Option ℕ) → find atom_cmp a (finite.entries bag) ≡ o → (i : ℕ) × (slice_get (finite.entries bag) i ≡ Some (a, count_of bag a))
-    by None e = let none : count_of bag a ≡ 0 = ap (λ o. unwrap_or o 0) (finite.get-entries bag a ∙ e) in absurd (omega arith)
-    by (Some n) e =
-        let there = place_of_find (finite.entries bag) a n e in
-        let count : n ≡ count_of bag a = sym (ap (λ o. unwrap_or o 0) (finite.get-entries bag a ∙ e)) in
-        (there.0, subst (λ m. slice_get (finite.entries bag) there.0 ≡ Some (a, m)) count there.1)
+entry_there bag a some = grind (arith, finite.get-entries bag a, place_of_find (finite.entries bag) a (count_of bag a))

@@ -1,5 +1,5 @@
 -- The multiset of a list of atoms: its copies, its nodes, and which atoms are there.
-use Rattle.std.proofs.Common.{◌≡◌, ⊎_elim, ◌+◌, ◌<◌, Bool, true, false, cond, List, [], ◌∷◌, length, Contains, ◌↔◌, refl, sym, subst, arith}
+use Rattle.std.proofs.Common.{◌≡◌, ◌+◌, ◌<◌, Bool, true, false, cond, List, [], ◌∷◌, length, Contains, ◌↔◌, sym, arith}
 use Rattle.std.specs.Prelude.{sum_by}
 use Rattle.std.specs.Ordering.{eq_by_cmp}
 use Rattle.std.proofs.Math.Nat.{add-mul}
@@ -7,7 +7,7 @@ use Rattle.std.proofs.lemmas.List.Sums.{sum_by-cons}
 use Rattle.cep_base.proofs.Elements.{contains_none, contains_cases, contains_same, contains_behind}
 use Rattle.cep_term.specs.Tree.{AtomTree, atom_nodes}
 use Rattle.cep_term.specs.Order.{atom_cmp}
-use Rattle.cep_term.specs.Multiset.{Multiset, count_of, with_one, gathered, copies_in, nodes_in_all}
+use Rattle.cep_term.specs.Multiset.{Multiset, count_of, gathered, copies_in, nodes_in_all}
 use Rattle.cep_term.proofs.Multisets.{count_empty, copies_empty, nodes_empty, count_set, count_set_own, copies_with_one, nodes_set_count}
 use Rattle.cep_term.proofs.Additions.{tied_atoms}
 
@@ -21,8 +21,7 @@ gathered_nodes (a ∷ atoms) = grind (arith, nodes_set_count, add-mul, sum_by-co
 
 -- no atom loses a copy where one is added
 more_copies : (bag : Multiset) (x a : AtomTree) (t : Bool) → eq_by_cmp atom_cmp a x ≡ t → 0 < count_of bag a → 0 < cond t (count_of bag x + 1) (count_of bag a)
-more_copies bag x a true e some = omega arith
-more_copies bag x a false e some = some
+more_copies bag x a t e some = grind arith
 
 -- an atom with a copy once one is added is that one, or had a copy
 some_before : (bag : Multiset) (x a : AtomTree) (atoms : List AtomTree) (t : Bool) → eq_by_cmp atom_cmp a x ≡ t → (0 < count_of bag a → Contains atoms a) → 0 < cond t (count_of bag x + 1) (count_of bag a) → Contains (x ∷ atoms) a
@@ -31,18 +30,11 @@ some_before bag x a atoms false e before some = contains_behind x atoms a (befor
 
 from_copy : (atoms : List AtomTree) (a : AtomTree) → 0 < count_of (gathered atoms) a → Contains atoms a
 from_copy [] a some = absurd (omega (arith, count_empty a))
-from_copy (x ∷ atoms) a some =
-    let bag = gathered atoms in
-    some_before bag x a atoms (eq_by_cmp atom_cmp a x) refl (from_copy atoms a) (subst (λ n. 0 < n) (count_set bag x a (count_of bag x + 1)) some)
+from_copy (x ∷ atoms) a some = grind (arith, count_set (gathered atoms) x a (count_of (gathered atoms) x + 1), from_copy atoms a, tied_atoms x a, contains_same x atoms a, contains_behind x atoms a)
 
 to_copy : (atoms : List AtomTree) (a : AtomTree) → Contains atoms a → 0 < count_of (gathered atoms) a
 to_copy [] a there = absurd (contains_none a there)
-to_copy (x ∷ atoms) a there =
-    let bag = gathered atoms in
-    ⊎_elim
-    (λ (same : x ≡ a). subst (λ y. 0 < count_of (with_one bag x) y) same (omega (arith, count_set_own bag x (count_of bag x + 1))))
-    (λ later. subst (λ n. 0 < n) (sym (count_set bag x a (count_of bag x + 1))) (more_copies bag x a (eq_by_cmp atom_cmp a x) refl (to_copy atoms a later)))
-    (contains_cases x atoms a there)
+to_copy (x ∷ atoms) a there = grind (arith, contains_cases x atoms a there, count_set (gathered atoms) x a (count_of (gathered atoms) x + 1), count_set_own (gathered atoms) x (count_of (gathered atoms) x + 1), to_copy atoms a)
 
 pub gathered_there : (atoms : List AtomTree) (a : AtomTree) → (0 < count_of (gathered atoms) a) ↔ Contains atoms a
 gathered_there atoms a = (from_copy atoms a, to_copy atoms a)

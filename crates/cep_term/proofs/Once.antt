@@ -2,8 +2,8 @@
 use Rattle.std.proofs.Common.{◌≡◌, ◌≢◌, T, ℕ, ◌+◌, ◌<◌, ◌≤◌, Bool, true, false, cond, ◌&&◌, List, [], ◌∷◌, ◌++◌, length, map, Contains, ⊎_elim, Some, refl, sym, ap, subst, arith}
 use Rattle.std.specs.Prelude.{nat_lt, option_map}
 use Rattle.std.specs.List.{AllByRecursion}
-use Rattle.std.specs.Ordering.{is_lt, is_eq, eq_by_cmp}
-use Rattle.std.specs.Cmp.{tied_itself, Equal-is, eq_by_cmp_equiv}
+use Rattle.std.specs.Ordering.{is_lt, eq_by_cmp}
+use Rattle.std.specs.Cmp.{Equal-is, eq_by_cmp_equiv}
 use Rattle.std.specs.FinMap as finite
 use Rattle.std.specs.FinMap.Entries.{find, below_all, is_sorted}
 use Rattle.cep_base.proofs.Elements.{contains_cases, contains_same, contains_behind}
@@ -36,9 +36,6 @@ each_held test (e ∷ es) all = grind (arith, each_held test es)
 -- how much a test adds to a count
 abbrev pub one_if : Bool → ℕ
 one_if t = cond t 1 0
-
-pub equal_itself : (x : AtomTree) → eq_by_cmp atom_cmp x x ≡ true
-equal_itself x = ap is_eq (tied_itself atom_cmp_total x)
 
 pub same_atom : (x y : AtomTree) → eq_by_cmp atom_cmp x y ≡ true → x ≡ y
 same_atom x y e = atom_cmp_ties x y ((Equal-is (atom_cmp x y)).0 e)

@@ -1,38 +1,30 @@
 -- The order of trees is total, and only equal trees tie.
-use Rattle.std.proofs.Common.{◌≡◌, ◌≢◌, ◌⊎◌, inl, inr, ℕ, List, [], Bool, true, false, IsTrue, ◌↔◌, refl, sym, ap, subst, ◌∙◌, arith}
+use Rattle.std.proofs.Common.{◌≡◌, ◌≢◌, ◌⊎◌, ℕ, List, [], Bool, IsTrue, ◌↔◌, ap, subst, ◌∙◌, arith}
 use Rattle.std.specs.declared.cmp.Ordering.{Ordering}
-use Rattle.std.specs.declared.cmp.Ordering.TheVariants.{Less, Equal, Greater}
+use Rattle.std.specs.declared.cmp.Ordering.TheVariants.{Equal}
 use Rattle.std.specs.Ordering.{nat_cmp, ordering_then, is_eq}
 use Rattle.std.specs.Cmp.{IsTotalOrder, on_total, tied_itself}
 use Rattle.std.specs.Cmp.Lexicographic.{slice_cmp, nat_list_cmp_total}
 use Rattle.std.specs.FinMap.{IsAntisymmetric, nat_cmp-IsAntisymmetric, slice_cmp-IsAntisymmetric}
-use Rattle.cep_term.specs.Tree.{Tree, Trees, AtomTree, variable, node, none, more}
+use Rattle.cep_term.specs.Tree.{Tree, Trees, AtomTree, node, more}
 use Rattle.cep_term.specs.Order.{tree_cmp, trees_cmp, atom_cmp}
 use Rattle.cep_term.specs.Codes.{flat, flats, flat_atom, flat_tree_injective, flat_atom_injective}
 
 then_assoc : (a b c : Ordering) → ordering_then a (ordering_then b c) ≡ ordering_then (ordering_then a b) c
-then_assoc Less b c = refl
-then_assoc Equal b c = refl
-then_assoc Greater b c = refl
+then_assoc a b c = grind arith
 
 then_Equal : (a : Ordering) → ordering_then a Equal ≡ a
-then_Equal Less = refl
-then_Equal Equal = refl
-then_Equal Greater = refl
+then_Equal a = grind arith
 
 -- the numbers of trees compare as the trees do, and then as what stands after them
 mutual
   flat_cmp : (t u : Tree) (k l : List ℕ) → slice_cmp nat_cmp (flat t k) (flat u l) ≡ ordering_then (tree_cmp t u) (slice_cmp nat_cmp k l)
-  flat_cmp (variable v) (variable w) k l = refl
-  flat_cmp (variable v) (node d us) k l = refl
-  flat_cmp (node c ts) (variable w) k l = refl
   flat_cmp (node c ts) (node d us) k l = ap (ordering_then (nat_cmp c d)) (flats_cmp ts us k l) ∙ then_assoc (nat_cmp c d) (trees_cmp ts us) (slice_cmp nat_cmp k l)
+  flat_cmp t u k l = grind arith
 
   flats_cmp : (ts us : Trees) (k l : List ℕ) → slice_cmp nat_cmp (flats ts k) (flats us l) ≡ ordering_then (trees_cmp ts us) (slice_cmp nat_cmp k l)
-  flats_cmp none none k l = refl
-  flats_cmp none (more u us) k l = refl
-  flats_cmp (more t ts) none k l = refl
   flats_cmp (more t ts) (more u us) k l = flat_cmp t u (flats ts k) (flats us l) ∙ ap (ordering_then (tree_cmp t u)) (flats_cmp ts us k l) ∙ then_assoc (tree_cmp t u) (trees_cmp ts us) (slice_cmp nat_cmp k l)
+  flats_cmp ts us k l = grind arith
 
 tree_cmp_flat : (t u : Tree) → slice_cmp nat_cmp (flat t []) (flat u []) ≡ tree_cmp t u
 tree_cmp_flat t u = flat_cmp t u [] [] ∙ then_Equal (tree_cmp t u)
@@ -54,21 +46,8 @@ atom_cmp_ties a b e = flat_atom_injective a b (slice_cmp-IsAntisymmetric nat_cmp
 
 -- the test whether the answer is `Equal` is the test whether the atoms are equal
 pub same_by_cmp : (a b : AtomTree) (r : Ordering) (t : Bool) → r ≡ atom_cmp a b → t ≡ is_eq r → IsTrue t ↔ (a ≡ b)
-same_by_cmp a b Less false e f = (λ h. cc, λ same. let tied : atom_cmp a b ≡ Equal = ap (atom_cmp a) (sym same) ∙ tied_itself atom_cmp_total a in cc)
-same_by_cmp a b Greater false e f = (λ h. cc, λ same. let tied : atom_cmp a b ≡ Equal = ap (atom_cmp a) (sym same) ∙ tied_itself atom_cmp_total a in cc)
-same_by_cmp a b Equal true e f = (λ h. atom_cmp_ties a b (sym e), λ same. refl)
-same_by_cmp a b Equal false e f = cc
-same_by_cmp a b Less true e f = cc
-same_by_cmp a b Greater true e f = cc
+same_by_cmp a b r t e f = grind (arith, atom_cmp_ties a b, tied_itself atom_cmp_total a)
 
 -- two atoms are one or not
 pub atoms_apart : (a b : AtomTree) → (a ≡ b) ⊎ (a ≢ b)
-atoms_apart a b = by (atom_cmp a b) refl
-  where
-    differ : (r : Ordering) → atom_cmp a b ≡ r → is_eq r ≡ false → (a ≡ b) ⊎ (a ≢ b)
-    differ r e other = inr (λ same. grind (arith, tied_itself atom_cmp_total a))
-
-    by : (r : Ordering) → atom_cmp a b ≡ r → (a ≡ b) ⊎ (a ≢ b)
-    by Equal e = inl (atom_cmp_ties a b e)
-    by Less e = differ Less e refl
-    by Greater e = differ Greater e refl
+atoms_apart a b = grind (arith, atom_cmp_ties a b, tied_itself atom_cmp_total a)

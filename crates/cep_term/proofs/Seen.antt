@@ -1,6 +1,5 @@
 -- What the entries of a bag say of the multiset that they stand for.
-use Rattle.std.proofs.Common.{◌≡◌, ℕ, zero, suc, ◌+◌, ◌-◌, ◌<◌, ◌≤◌, Bool, true, false, ◌==◌, List, [], ◌∷◌, length, take, unwrap_or, ◌↔◌, refl, sym, ap, subst, ◌∙◌, arith}
-use Rattle.std.proofs.lemmas.Bool.{eqb-true, eq-eqb}
+use Rattle.std.proofs.Common.{◌≡◌, ℕ, ◌+◌, ◌-◌, ◌<◌, ◌≤◌, true, false, ◌==◌, List, [], ◌∷◌, length, take, unwrap_or, ◌↔◌, refl, sym, ap, subst, ◌∙◌, arith}
 use Rattle.std.proofs.lemmas.List.{take_all}
 use Rattle.std.specs.List.{AllByRecursion}
 use Rattle.std.specs.FinMap as finite
@@ -50,7 +49,7 @@ ground_there (e ∷ es) a all there = grind (arith, ground_there es a all.1, ato
 -- the counts of a list are at most others where each entry's is
 counts_from_entries : (others : List Counted) (count : AtomTree → ℕ) (a : AtomTree) → AllByRecursion (λ e. e.1 ≤ count e.0) others → find_count others a ≤ count a
 counts_from_entries [] count a all = omega arith
-counts_from_entries (e ∷ others) count a all = grind (arith, counts_from_entries others count a all.1, atom_cmp_ties a e.0)
+counts_from_entries (e ∷ others) count a all = grind (arith, counts_from_entries others count a, atom_cmp_ties a e.0)
 
 -- so one bag is contained in another if no entry of it has a greater count
 pub contained_all : (bag other : Multiset) (n : ℕ) → finite.len other ≤ n → AllByRecursion (λ e. e.1 ≤ count_of bag e.0) (take n (finite.entries other)) → IsContained other bag
@@ -60,8 +59,7 @@ contained_all bag other n most all a =
 
 -- where a copy was not missing, there is one
 some_copy_there : (n : ℕ) → (false ≡ true) ↔ (n ≡ 0) → 0 < n
-some_copy_there zero is = let no = is.1 refl in cc
-some_copy_there (suc n) is = omega arith
+some_copy_there n is = grind arith
 
 -- no count is above the sum of them all
 pub count_le_total : (es : List Counted) (a : AtomTree) → find_count es a ≤ total es
@@ -78,22 +76,14 @@ few_entries es copies kept = omega (arith, at_most es kept.each, kept.counted)
 
 -- and none exactly in the empty multiset
 pub none_seen : (es : List Counted) (bag : Multiset) (copies : ℕ) → AreKept es copies → finite.from_sorted es ≡ bag → ((copies == 0) ≡ true) ↔ (bag ≡ finite.empty)
-none_seen es bag copies kept seen = (
-  λ yes. let none : copies ≡ 0 = eqb-true copies 0 yes in finite.empty_of_len bag (omega (arith, few_entries es copies kept, len_seen es bag kept.rising seen)),
-  λ empty. eq-eqb copies 0 (sym kept.counted ∙ copies_seen es bag kept.rising seen ∙ ap (λ z. copies_in z) empty ∙ ap total (ap (λ z. finite.entries z) (sym empty_seen) ∙ entries_rising no_entries refl)),
-)
+none_seen es bag copies kept seen = grind (arith, finite.empty_of_len bag, few_entries es copies kept, len_seen es bag kept.rising seen, copies_seen es bag kept.rising seen, entries_rising no_entries, empty_seen, kept.counted)
 
 pub some_copy : (es : List Counted) (a : AtomTree) (copies : ℕ) → AreKept es copies → (false ≡ true) ↔ (find_count es a ≡ 0) → 1 ≤ copies
 some_copy es a copies kept is = omega (arith, some_copy_there (find_count es a) is, count_le_total es a, kept.counted)
 
 -- what always holds of the entries holds after one copy is taken
 pub kept_taken : (es edited : List Counted) (a : AtomTree) (copies : ℕ) → AreKept es copies → (false ≡ true) ↔ (find_count es a ≡ 0) → edited ≡ set_among es a (find_count es a - 1) → AreKept edited (copies - 1)
-kept_taken es edited a copies kept is e =
-    let some = some_copy_there (find_count es a) is in
-    let below = count_le_total es a in
-    let all = kept.counted in
-    kept_set es edited a (find_count es a - 1) copies (copies - 1) kept (ground_there es a kept.each (λ none. omega arith)) e (omega arith)
+kept_taken es edited a copies kept is e = grind (arith, some_copy_there (find_count es a) is, count_le_total es a, kept_set es edited a (find_count es a - 1) copies (copies - 1), ground_there es a kept.each, kept.counted)
 
--- an answer that stands with one count stands with an equal one
-pub on_same_count : (b : Bool) (n m : ℕ) → n ≡ m → (b ≡ true) ↔ (n ≡ 0) → (b ≡ true) ↔ (m ≡ 0)
-on_same_count b n m e is = (λ yes. sym e ∙ is.0 yes, λ none. is.1 (e ∙ none))
+-- for the functions that ask the entries of a bag
+pub ruleset seen = (entries_seen, count_seen, copies_seen, kept_seen, len_seen, set_seen, few_entries, none_seen, some_copy)

@@ -1,5 +1,5 @@
 -- What a value that is set leaves, and the instances of patterns under values.
-use Rattle.std.proofs.Common.{◌≡◌, ℕ, zero, suc, ◌<◌, List, length, Option, Some, None, IsSome, IfSome, slice_set, get_or, replicate, refl, sym, ap, subst, ◌∙◌, inl, inr}
+use Rattle.std.proofs.Common.{◌≡◌, ℕ, zero, suc, ◌<◌, List, length, Option, Some, None, IsSome, IfSome, slice_set, get_or, replicate, refl, inl, inr, arith}
 use Rattle.std.proofs.lemmas.List.{map-set, get_or-set_same, get_or-set_other, get_or-map, length-map}
 use Rattle.std.proofs.lemmas.Bool.{cases_eq}
 use Rattle.std.specs.Option.{option_map}
@@ -19,26 +19,16 @@ value_of-replicate (suc n) (suc v) = value_of-replicate n v
 
 -- a variable that was given a ground value leaves the values ground
 pub ground-set : (values : Values) (v : ℕ) (t : Tree) → v < length values → AreGroundValues values → IsGround t → AreGroundValues (slice_set values v (Some t))
-ground-set values v t in_range all known w u e =
-    elim (cases_eq w v) [
-      | inl same ↦
-          let there : value_of (slice_set values v (Some t)) w ≡ Some t = rw same (get_or-set_same values v (Some t) None in_range) in
-          let equal : t ≡ u = cc in
-          subst IsGround equal known
-      | inr apart ↦ all w u (sym (get_or-set_other values v w (Some t) None apart) ∙ e)
-    ]
+ground-set values v t in_range all known w u e = grind (arith, cases_eq w v, get_or-set_same values v (Some t) None in_range, get_or-set_other values v w (Some t) None, all w u)
 
 -- the value that a variable has where it has one
 pub some_value : {A : Type 0} (x : Option A) → IsSome x → (t : A) × (x ≡ Some t)
-some_value None h = cc
-some_value (Some t) h = (t, refl)
+some_value x h = grind arith
 
 -- a pattern whose variables have ground values has a ground instance
 mutual
   pub instance_ground : (t : Tree) (values : Values) → AreGroundValues values → ((v : ℕ) → Occurs v t → IsSome (value_of values v)) → IsGround (term_instance values t)
-  instance_ground (variable v) values all has =
-      let found = some_value (value_of values v) (has v refl) in
-      rw found.1 (all v found.0 found.1)
+  instance_ground (variable v) values all has = grind (arith, some_value (value_of values v), has v, all v)
   instance_ground (node c args) values all has = instances_ground args values all has
 
   pub instances_ground : (ts : Trees) (values : Values) → AreGroundValues values → ((v : ℕ) → OccursAmong v ts → IsSome (value_of values v)) → AreGround (argument_instances values ts)
@@ -47,6 +37,4 @@ mutual
 
 -- a reference to a value that is there is to a ground term
 pub ground_got : {R : Type 0} (term : R → Term) (result : Option R) (terms : List (Option Term)) (v : ℕ) (x : Option Term) → AreGroundValues (values_of terms) → v < length (values_of terms) → option_map term result ≡ x → x ≡ get_or terms v x → IfSome result (λ t. IsGround (tree_of (term t)))
-ground_got term None terms v x all in_range is at = tt
-ground_got term (Some t) terms v x all in_range is at =
-    all v (tree_of (term t)) (get_or-map (option_map tree_of) terms v x None (subst (λ n. v < n) (length-map terms (option_map tree_of)) in_range) ∙ ap (option_map tree_of) (sym at ∙ sym is))
+ground_got term result terms v x all in_range is at = grind (arith, get_or-map (option_map tree_of) terms v x None, length-map terms (option_map tree_of), all v)

@@ -62,6 +62,7 @@ impl Bag {
     }
 
     /// How many copies of the atom there are: 0 if it is not there. It takes no memory.
+    #[tactic(auto, using(crate::proofs::Seen::seen))]
     pub fn count(&self, a: &Atom) -> u32
         ensures { result ≡ count_of self.now (atom_of a.now) }
     {
@@ -69,6 +70,7 @@ impl Bag {
     }
 
     /// Adds one copy of a ground atom. After out of memory the bag is as before.
+    #[tactic(auto, using(crate::proofs::Seen::seen))]
     pub fn add(&mut self, a: &Atom) -> Result<(), AllocError>
         requires known { IsGroundAtom (atom_of a.now) }
         requires few { count_of self.old (atom_of a.now) < 2 ^ 32 - 1 }
@@ -98,6 +100,7 @@ impl Bag {
 
     /// Takes one copy of the atom. `Missing` comes if and only if there is none, and then nothing
     /// changes. It takes no memory.
+    #[tactic(auto, using(crate::proofs::Seen::seen))]
     pub fn take(&mut self, a: &Atom) -> Result<(), Missing>
         ensures missing { IsErr result ↔ (count_of self.old (atom_of a.now) ≡ 0) }
         ensures ok { OnOk result (self.new ≡ without_one self.old (atom_of a.now)) }
@@ -136,6 +139,7 @@ impl Bag {
     }
 
     // Each atom of a bag is ground and has a copy. It computes nothing.
+    #[tactic(auto, using(crate::proofs::Seen::seen))]
     fn each_is_kept(&self)
         ensures { IsBag self.now }
     {
@@ -156,6 +160,7 @@ impl Bag {
     }
 
     /// The number of copies of all atoms. It takes no memory.
+    #[tactic(auto, using(crate::proofs::Seen::seen))]
     pub fn copies(&self) -> u64
         ensures value { result ≡ copies_in self.now }
         ensures kept { IsBag self.now }
@@ -175,6 +180,7 @@ impl Bag {
     }
 
     /// The number of distinct atoms.
+    #[tactic(auto, using(crate::proofs::Seen::seen))]
     pub fn len(&self) -> usize
         ensures value { result ≡ finite.len self.now }
         ensures kept { IsBag self.now }
@@ -185,6 +191,7 @@ impl Bag {
     }
 
     /// Whether there is no atom.
+    #[tactic(auto, using(crate::proofs::Seen::seen))]
     pub fn is_empty(&self) -> bool
         ensures { IsTrue result ↔ (self.now ≡ finite.empty) }
     {
@@ -192,6 +199,7 @@ impl Bag {
     }
 
     /// The i-th atom in the order of atoms, counted from 0, with the number of its copies.
+    #[tactic(auto, using(crate::proofs::Seen::seen))]
     pub fn entry(&self, i: usize) -> (&Atom, u32)
         requires { i < finite.len self.now }
         ensures { slice_get (finite.entries self.now) i ≡ Some (atom_of result.0.now, result.1) }
