@@ -15,11 +15,22 @@ use std::marker::Model;
 /// atoms, so an atom is found by halving, and in blocks, so that what moves if one comes or goes
 /// does not grow with the bag. That an atom has fewer than 2^32 copies, and all atoms fewer than
 /// 2^64, is this profile's.
-#[derive(Drop)]
 pub struct Bag {
     alloc: Global,
     blocks: Blocks,
     copies: u64,
+}
+
+// One call where a bag is dropped, in place of one for each field.
+impl Drop for Bag {
+    fn drop(self) {
+        let Bag {
+            alloc: _,
+            blocks,
+            copies: _,
+        } = self;
+        drop(blocks);
+    }
 }
 
 impl Model for Bag {
