@@ -12,7 +12,7 @@ use Rattle.cep_term.specs.Order.{atom_cmp}
 use Rattle.cep_term.specs.Multiset.{Multiset, count_of, with_count, with_one, without_one, gathered, sum_of, difference_of, IsEntry, IsBag}
 use Rattle.cep_term.proofs.OrderLaws.{atom_cmp_ties}
 use Rattle.cep_term.proofs.Edits.{Counted}
-use Rattle.cep_term.proofs.Multisets.{entries_empty, bag_empty, count_empty, count_set, count_set_own, bag_set_count, bag_sum, count_sum, same_counts, sum_commutes, sum_groups, sum_with_one, bag_gathered, gathered-append}
+use Rattle.cep_term.proofs.Multisets.{copies_empty, count_le_copies, copies_with_one, entries_empty, bag_empty, count_empty, count_set, count_set_own, bag_set_count, bag_sum, count_sum, same_counts, sum_commutes, sum_groups, sum_with_one, bag_gathered, gathered-append}
 
 -- nothing is added yet
 pub sum_none : (bag : Multiset) → bag ≡ sum_of bag (gathered [])
@@ -92,3 +92,8 @@ no_copy_less n = omega arith
 
 pub kept_along : (bag new : Multiset) (a : AtomTree) (n : ℕ) → IsGroundAtom a → IsBag bag → new ≡ with_count bag a n → IsBag new
 kept_along bag new a n known kept is = subst IsBag (sym is) (bag_set_count bag a n known kept)
+
+-- for the functions that add and take lists of atoms
+pub ruleset added = (copies_empty, count_le_copies, copies_with_one, sum_none, sum_alone, sum_more, bag_with_one, bag_gathered)
+
+pub ruleset taken = (ground_entry, taken_next, all_entries, kept_along, set_same, taken_more, no_copy_less)

@@ -62,6 +62,7 @@ impl Bag {
     }
 
     /// The multiset of a list of ground atoms. Only out of memory is refused.
+    #[tactic(auto, using(crate::proofs::Additions::added))]
     pub fn of(alloc: Global, atoms: &AtomList) -> Result<Bag, AllocError>
         requires known { AllByRecursion IsGroundAtom atoms.now }
         requires few { length atoms.now < 2 ^ 32 }
@@ -96,6 +97,7 @@ impl Bag {
 
     /// Adds a list of ground atoms, one after another. After out of memory a prefix of the list is
     /// added.
+    #[tactic(auto, using(crate::proofs::Additions::added))]
     pub fn add_all(&mut self, atoms: &AtomList) -> Result<(), AllocError>
         requires known { AllByRecursion IsGroundAtom atoms.now }
         requires few { copies_in self.old + length atoms.now < 2 ^ 32 }
@@ -127,6 +129,7 @@ impl Bag {
     }
 
     /// Takes the copies that the other bag has, as far as they are there. It takes no memory.
+    #[tactic(auto, using(crate::proofs::Additions::taken))]
     pub fn take_all(&mut self, other: &Bag)
         ensures { self.new ≡ difference_of self.old other.now }
     {
@@ -138,6 +141,7 @@ impl Bag {
     }
 
     // Takes so many copies of the atom, or all if there are fewer.
+    #[tactic(auto, using(crate::proofs::Additions::taken))]
     fn take_copies(&mut self, atom: &Atom, copies: u32)
         requires known { IsGroundAtom (atom_of atom.now) }
         requires kept { IsBag self.old }

@@ -1,11 +1,8 @@
-use Rattle.std.proofs.Common.{◌∙◌, sym, ap, arith}
+use Rattle.std.proofs.Common.{◌∙◌, sym, ap}
 use Rattle.cep_term.specs.Tree.{atom_of}
 use Rattle.cep_term.specs.Multiset.{Multiset}
-use Rattle.cep_term.proofs.Additions.{without_entry, taken_next, all_entries, ground_entry, kept_along}
+use Rattle.cep_term.proofs.Additions.{without_entry, taken_next, ground_entry, kept_along}
 use Rattle.cep_term.proofs.bag.Bag.take_all.Goals as goal
-
-pub take_copies-requires-clause-known : goal.take_copies-requires-clause-known
-take_copies-requires-clause-known c = ground_entry c.args.other.now c.loop-i.i _ _ c.len-i-end.ensures.kept c.entry-copies.ensures
 
 pub loop-i-preserved : goal.loop-i-preserved
 loop-i-preserved c =
@@ -17,6 +14,3 @@ loop-i-preserved c =
           ∙ sym (taken_next c.args.self.now c.args.other.now c.loop-i.i a copies c.entry-copies.ensures);
       kept = kept_along c.loop-i.self c.take_copies.new.self a _ (ground_entry c.args.other.now c.loop-i.i a copies c.len-i-end.ensures.kept c.entry-copies.ensures) c.loop-i.invariant.kept c.take_copies.ensures;
     }
-
-pub returns : goal.returns
-returns c = c.loop-i.invariant.taken ∙ all_entries c.args.self.now c.args.other.now c.loop-i.i (omega arith)
