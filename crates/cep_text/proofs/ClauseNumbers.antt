@@ -1,5 +1,5 @@
 -- The numbers of clauses, counted from 1.
-use Rattle.std.proofs.Common.{◌≡◌, ◌≢◌, ℕ, zero, suc, ◌<◌, ◌^◌, Bool, true, false, cond, List, Some, None, refl, sym, ap, subst, ◌∙◌, bytes_eq, arith}
+use Rattle.std.proofs.Common.{◌≡◌, ◌≢◌, ℕ, zero, suc, ◌<◌, ◌^◌, Bool, true, false, cond, List, Some, None, refl, sym, ◌∙◌, bytes_eq, arith}
 use Rattle.std.specs.Prelude.{decimal}
 use Rattle.std.proofs.lemmas.Fmt.{decimal_injective}
 use Rattle.std.proofs.lemmas.Slice.Eq.{bytes_eq-Decides}
@@ -24,19 +24,13 @@ unfolding numbered_by
 numbered_again zero n word few below is = absurd (omega arith)
 numbered_again (suc place) n word few below is = cases (bytes_eq (decimal (suc place)) word) refl (numbered_again place n word (omega arith)) where
   cases : (same : Bool) → bytes_eq (decimal (suc place)) word ≡ same → (n < place → word ≡ decimal (suc n) → numbered_by place word ≡ Some n) → cond same (Some place) (numbered_by place word) ≡ Some n
-  cases true t later =
-      let e : suc place ≡ suc n = decimal_injective (suc place) (suc n) (omega arith) (omega arith) ((bytes_eq-Decides (decimal (suc place)) word).0 t ∙ is) in
-      let p : place ≡ n = omega arith in ap Some p
-  cases false t later =
-      let other : place ≢ n = λ p. apart (decimal (suc place)) word t (ap (λ k. decimal (suc k)) p ∙ sym is) in
-      later (omega arith) is
+  cases true t later = grind (arith, decimal_injective, bytes_eq-Decides)
+  cases false t later = grind (arith, apart)
 
 pub numbered_found : (most : ℕ) (word : List ℕ) (n : ℕ) → numbered_by most word ≡ Some n → (n < most) × (word ≡ decimal (suc n))
 unfolding numbered_by
 numbered_found zero word n e = absurd cc
 numbered_found (suc place) word n e = cases (bytes_eq (decimal (suc place)) word) refl (numbered_found place word n) e where
   cases : (same : Bool) → bytes_eq (decimal (suc place)) word ≡ same → (numbered_by place word ≡ Some n → (n < place) × (word ≡ decimal (suc n))) → cond same (Some place) (numbered_by place word) ≡ Some n → (n < suc place) × (word ≡ decimal (suc n))
-  cases true t later e =
-      let p : place ≡ n = some_is place n e in
-      subst (λ k. (k < suc place) × (word ≡ decimal (suc k))) p (omega arith, sym ((bytes_eq-Decides (decimal (suc place)) word).0 t))
+  cases true t later e = grind (arith, some_is, bytes_eq-Decides)
   cases false t later e = let found = later e in (let below = found.0 in omega arith, found.1)

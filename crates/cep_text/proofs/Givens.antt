@@ -1,5 +1,5 @@
 -- What the variables are given, one after another.
-use Rattle.std.proofs.Common.{◌≡◌, ℕ, ◌+◌, suc, zero, List, [], ◌∷◌, ◌++◌, take, append_assoc, refl, sym, ap, subst, ◌∙◌, append-nil, arith}
+use Rattle.std.proofs.Common.{◌≡◌, ℕ, ◌+◌, suc, zero, List, [], ◌∷◌, ◌++◌, take, append_assoc, refl, append-nil, arith}
 use Rattle.std.specs.Prelude.{Result, OnErr, Some, slice_get}
 use Rattle.cep_term.specs.Tree.{Tree}
 use Rattle.cep_rule.specs.declared.signature.Signature.{Signature}
@@ -18,13 +18,8 @@ step_by : (signature : Signature) (i : ℕ) (names : List (List ℕ)) (values : 
     → first_given signature names values (suc i) ≡ first_given signature names values i ++ given_text signature name value
 step_by signature i [] values name value e f = absurd cc
 step_by signature i (n ∷ names) [] name value e f = absurd cc
-step_by signature zero (n ∷ names) (v ∷ values) name value e f =
-    let same_name : n ≡ name = cc in
-    let same_value : v ≡ value = cc in
-    rw (same_name, same_value) (append-nil (given_text signature name value))
-step_by signature (suc i) (n ∷ names) (v ∷ values) name value e f =
-    ap (λ text. given_text signature n v ++ text) (step_by signature i names values name value e f)
-    ∙ sym (append_assoc (given_text signature n v) (first_given signature names values i) (given_text signature name value))
+step_by signature zero (n ∷ names) (v ∷ values) name value e f = grind (arith, append-nil)
+step_by signature (suc i) (n ∷ names) (v ∷ values) name value e f = grind (arith, append_assoc, step_by signature i names values name value e f)
 
 -- and then the rest
 rest_by : (signature : Signature) (i : ℕ) (names : List (List ℕ)) (values : List Tree)
@@ -32,29 +27,16 @@ rest_by : (signature : Signature) (i : ℕ) (names : List (List ℕ)) (values : 
 rest_by signature zero names values = (all_given_text signature names values, refl)
 rest_by signature (suc i) [] values = ([], refl)
 rest_by signature (suc i) (n ∷ names) [] = ([], refl)
-rest_by signature (suc i) (n ∷ names) (v ∷ values) =
-    let inner = rest_by signature i names values in
-    (inner.0, ap (λ text. given_text signature n v ++ text) inner.1 ∙ sym (append_assoc (given_text signature n v) (first_given signature names values i) inner.0))
+rest_by signature (suc i) (n ∷ names) (v ∷ values) = grind (arith, append_assoc, rest_by signature i names values)
 
 pub given_step : (signature : Signature) (i : ℕ) (names : List (List ℕ)) (values : List Tree) (name : List ℕ) (value : Tree) (old mid new : List ℕ)
     → slice_get names i ≡ Some name → slice_get values i ≡ Some value
     → mid ≡ old ++ first_given signature names values i → new ≡ mid ++ given_text signature name value
     → new ≡ old ++ first_given signature names values (i + 1)
-given_step signature i names values name value old mid new e f before one =
-    let on : i + 1 ≡ suc i = omega arith in
-    one ∙ ap (λ text. text ++ given_text signature name value) before
-    ∙ append_assoc old (first_given signature names values i) (given_text signature name value)
-    ∙ ap (λ text. old ++ text) (sym (step_by signature i names values name value e f) ∙ ap (first_given signature names values) (sym on))
+given_step signature i names values name value old mid new e f before one = grind (arith, append_assoc, step_by)
 
 pub given_begun : {T E : Type 0} (r : Result T E) (signature : Signature) (i : ℕ) (names : List (List ℕ)) (values : List Tree) (name : List ℕ) (value : Tree) (old mid new : List ℕ)
     → slice_get names i ≡ Some name → slice_get values i ≡ Some value
     → mid ≡ old ++ first_given signature names values i → IsBegun mid (given_text signature name value) new
     → OnErr r (IsBegun old (all_given_text signature names values) new)
-given_begun r signature i names values name value old mid new e f before begun =
-    let one = given_text signature name value in
-    let so_far = first_given signature names values i in
-    let rest = rest_by signature (suc i) names values in
-    let whole : all_given_text signature names values ≡ so_far ++ (one ++ rest.0) =
-    rest.1 ∙ ap (λ text. text ++ rest.0) (step_by signature i names values name value e f) ∙ append_assoc so_far one rest.0 in
-    let shown = begun_then old so_far (one ++ rest.0) mid new before (begun_first mid one rest.0 new begun) in
-    on_err r _ (subst (λ text. IsBegun old text new) (sym whole) shown)
+given_begun r signature i names values name value old mid new e f before begun = grind (arith, rest_by signature (suc i) names values, step_by signature i names values name value e f, append_assoc, begun_then, begun_first, on_err)

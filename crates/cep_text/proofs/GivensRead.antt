@@ -36,11 +36,7 @@ given_found signature name kind bytes t rest e =
 
 -- the text of one, and then those of the others
 regroup : (name text others rest : List ℕ) → codes " " ++ (name ++ (codes "=" ++ (text ++ (others ++ rest)))) ≡ ((codes " " ++ (name ++ (codes "=" ++ text))) ++ others) ++ rest
-regroup name text others rest =
-    ap (λ bytes. codes " " ++ bytes)
-    (ap (λ bytes. name ++ (codes "=" ++ bytes)) (sym (append_assoc text others rest))
-    ∙ sym (append_assoc name (codes "=" ++ (text ++ others)) rest)
-    ∙ ap (λ bytes. bytes ++ rest) (sym (append_assoc name (codes "=" ++ text) others)))
+regroup name text others rest = grind (arith, append_assoc)
 
 pub givens_found : (signature : Signature) (names : List (List ℕ)) (kinds : List ℕ) (before : List Tree) (bytes : List ℕ) (all : List Tree) (rest : List ℕ) → length kinds ≡ length names
     → givens_at (small_at signature.cons) names kinds before bytes ≡ Some (all, rest) → GivensFound signature names kinds before bytes all rest
@@ -103,8 +99,7 @@ pub small_read : (signature : Signature) → AreNames (con_names signature.cons)
 small_read signature names [] [] typed small = tt
 small_read signature names [] (t ∷ values) typed small = absurd typed
 small_read signature names (kind ∷ kinds) [] typed small = absurd typed
-small_read signature names (kind ∷ kinds) (t ∷ values) typed small =
-    ((λ rest apart. small_again signature names t kind rest typed.0 small.0 apart), small_read signature names kinds values typed.1 small.1)
+small_read signature names (kind ∷ kinds) (t ∷ values) typed small = grind (arith, small_again, typed.0, small.0, small_read signature names kinds values typed.1 small.1, typed.1, small.1)
 
 -- how many levels any of the values has at most
 abbrev pub levels_of : List Tree → ℕ

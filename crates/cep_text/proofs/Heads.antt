@@ -67,11 +67,7 @@ pub record ConFound (cons : List Con) (sort : ℕ) (bytes : List ℕ) (number : 
 sort_found : (sort number : ℕ) (found : Option Con) (number' : ℕ) (kinds : List ℕ) → of_sort sort number found ≡ Some (number', kinds)
     → (con : Con) × (found ≡ Some con) × (number ≡ number') × (con.sort ≡ sort) × (con.args ≡ kinds)
 sort_found sort number None number' kinds e = absurd cc
-sort_found sort number (Some con) number' kinds e =
-    let one : ℕ × List ℕ = (number, con.args) in
-    let other : ℕ × List ℕ = (number', kinds) in
-    let parts = guard_some (eqb con.sort sort) one other e in
-    (con, refl, ap (λ z. z.0) parts.1, eqb-true con.sort sort parts.0, ap (λ z. z.1) parts.1)
+sort_found sort number (Some con) number' kinds e = grind (arith, guard_some, eqb-true, con.args, con.sort)
 
 named : (found : Option Con) (con : Con) (name : List ℕ) → found ≡ Some con → option_map (λ con. con.name) found ≡ Some name → con.name ≡ name
 named None con name e there = absurd cc
@@ -117,10 +113,7 @@ pub record PredFound (preds : List PredDecl) (bytes : List ℕ) (number : ℕ) (
 head_found : (number : ℕ) (found : Option PredDecl) (number' : ℕ) (kinds : List ℕ) → pred_head number found ≡ Some (number', kinds)
     → (pred : PredDecl) × (found ≡ Some pred) × (number ≡ number') × (pred.args ≡ kinds)
 head_found number None number' kinds e = absurd cc
-head_found number (Some pred) number' kinds e =
-    let one : ℕ × List ℕ = (number, pred.args) in
-    let pair = some_is one (number', kinds) e in
-    (pred, refl, ap (λ z. z.0) pair, ap (λ z. z.1) pair)
+head_found number (Some pred) number' kinds e = grind (arith, some_is, pred.args)
 
 named_pred : (found : Option PredDecl) (pred : PredDecl) (name : List ℕ) → found ≡ Some pred → option_map (λ pred. pred.name) found ≡ Some name → pred.name ≡ name
 named_pred None pred name e there = absurd cc

@@ -91,9 +91,7 @@ number_is [] name i e = absurd cc
 number_is (other ∷ names) name i e = cases (bytes_eq other name) refl e (number_is names name) where
   cases : (same : Bool) → bytes_eq other name ≡ same → cond same (Some zero) (number_among names name >>= λ number. Some (suc number)) ≡ Some i → ((i : ℕ) → number_among names name ≡ Some i → slice_get names i ≡ Some name) → slice_get (other ∷ names) i ≡ Some name
   cases true t e more = let p : zero ≡ i = cc in subst (λ (i : ℕ). slice_get (other ∷ names) i ≡ Some name) p (ap Some ((bytes_eq-Decides other name).0 t))
-  cases false t e more =
-      by_bind (number_among names name) _ i e (λ number is e.
-      subst (λ (i : ℕ). slice_get (other ∷ names) i ≡ Some name) (some_is (suc number) i e) (more number is))
+  cases false t e more = grind (arith, by_bind, some_is)
 
 pub number_within : {X : Type 0} (name_of : X → List ℕ) (items : List X) (name : List ℕ) (i : ℕ) → number_among (map name_of items) name ≡ Some i → i < length items
 number_within name_of items name i e =

@@ -9,7 +9,7 @@ use Rattle.cep_rule.specs.Typing.{AreValues}
 use Rattle.cep_rule.specs.Derivations.{ProofTree, ProofTrees, by_clause, no_goal, goal_by, proof_height, greatest_height}
 use Rattle.cep_rule.specs.Program.{IsProgram, IsTypedClause}
 use Rattle.cep_rule.specs.Shapes.{AreAsMany, IsProofOf, AreProofsOf, IsSmallTerm, HasSmallValues, HaveSmallValues}
-use Rattle.cep_text.specs.Texts.{clause_vars, all_given_text, begin_text, proof_text, proofs_text}
+use Rattle.cep_text.specs.Texts.{all_given_text, begin_text, proof_text, proofs_text}
 use Rattle.cep_text.specs.Reading.{Reader, literal_at, name_len, front_name, behind_name, numbered_by, small_at, givens_at, clause_at, begin_at, proofs_at, node_at, proof_at}
 use Rattle.cep_text.proofs.Literals.{literal_found}
 use Rattle.cep_text.proofs.Numbers.{by_bind, some_is, all_at}
@@ -48,10 +48,7 @@ pub record BeginFound (program : Parts) (bytes : List ℕ) (number : ℕ) (value
 
 begin_of_text : (program : Parts) (number : ℕ) (clause : ClauseTree) (values : List Tree) (rest : List ℕ) → slice_get program.clauses number ≡ Some clause
     → codes "[" ++ (decimal (number + 1) ++ (all_given_text program.signature clause.vars values ++ rest)) ≡ begin_text program number values ++ rest
-begin_of_text program number clause values rest there =
-    let given = all_given_text program.signature clause.vars values in
-    ap (λ text. codes "[" ++ text) (sym (append_assoc (decimal (number + 1)) given rest))
-    ∙ ap (λ found. (codes "[" ++ (decimal (number + 1) ++ all_given_text program.signature (clause_vars found) values)) ++ rest) (sym there)
+begin_of_text program number clause values rest there = grind (arith, append_assoc, program.signature, clause.vars)
 
 begin_found : (program : Parts) (bytes : List ℕ) (number : ℕ) (values : List Tree) (goals : ℕ) (rest : List ℕ) → IsProgram program
     → begin_at program (small_at program.signature.cons) bytes ≡ Some ((number, values, goals), rest) → BeginFound program bytes number values goals rest

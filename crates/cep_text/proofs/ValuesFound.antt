@@ -103,11 +103,7 @@ enclosed_text : (signature : Signature) (number : ℕ) (con : Con) (sorts : List
     → codes "(" ++ bytes ≡ term_text signature (node number args) ++ rest
 enclosed_text signature number con [] args bytes inner rest there some typed e f = absurd cc
 enclosed_text signature number con (sort ∷ sorts) none bytes inner rest there some typed e f = absurd typed
-enclosed_text signature number con (sort ∷ sorts) (more t others) bytes inner rest there some typed e f =
-    let args = args_text signature (more t others) in
-    let whole : bytes ≡ ((con.name ++ args) ++ codes ")") ++ rest =
-    e ∙ ap (λ text. con.name ++ text) f ∙ sym (append_assoc con.name args (codes ")" ++ rest)) ∙ sym (append_assoc (con.name ++ args) (codes ")") rest) in
-    ap (λ text. codes "(" ++ text) (whole ∙ ap (λ c. ((con_name c ++ args) ++ codes ")") ++ rest) (sym there))
+enclosed_text signature number con (sort ∷ sorts) (more t others) bytes inner rest there some typed e f = grind (arith, append_assoc, con.name)
 
 enclosed_found : (signature : Signature) (depth : ℕ) (value : ℕ → Reader Tree) → IsSound signature depth value
     → (sort : ℕ) (bytes : List ℕ) (t : Tree) (rest : List ℕ) → enclosed_at value signature.cons sort bytes ≡ Some (t, rest) → Found signature (suc depth) sort (codes "(" ++ bytes) t rest
