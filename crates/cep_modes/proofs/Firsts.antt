@@ -1,10 +1,10 @@
 -- The premises that are marked are those that call bad pairs.
-use Rattle.std.proofs.Common.{◌≡◌, ◌<◌, ◌+◌, ℕ, zero, suc, Bool, true, false, List, [], ◌∷◌, ◌++◌, length, map, take, drop, slice_get, Some, refl, ap, sym, ◌∙◌, subst, arith}
+use Rattle.std.proofs.Common.{◌≡◌, ◌<◌, ◌+◌, ℕ, zero, suc, Bool, true, List, [], ◌∷◌, ◌++◌, length, map, take, drop, slice_get, Some, refl, ap, sym, ◌∙◌, subst, arith}
 use Rattle.std.specs.List.{AllByRecursion, Contains}
 use Rattle.std.proofs.lemmas.List.{append-nil, drop_all, take_all, length-map}
 use Rattle.std.proofs.lemmas.Option.{slice_get_within, get_or_from_slice_get}
 use Rattle.cep_base.proofs.Lists.{none_some, some_same, take_next, get_mapped}
-use Rattle.cep_base.proofs.Elements.{both_all, contains_left, contains_right, all_at, all_of}
+use Rattle.cep_base.proofs.Elements.{contains_left, contains_right, all_at, all_of}
 use Rattle.cep_rule.specs.declared.rule.Rule.{Rule}
 use Rattle.cep_rule.specs.Patterns.{ClauseTree}
 use Rattle.cep_rule.specs.Binding.{needed_of}
@@ -17,8 +17,7 @@ use Rattle.cep_modes.proofs.Failing.{calls_to, calls_from}
 
 -- all that is written into a whole slice stands there
 pub written : (n : ℕ) (new old : List Bool) → length new ≡ length old → n ≡ length old → take n (new ++ drop (length new) old) ≡ new
-written n new old same long =
-    ap (λ rest. take n (new ++ rest)) (drop_all (length new) old (omega arith)) ∙ ap (take n) (append-nil new) ∙ take_all n new (omega arith)
+written n new old same long = grind (arith, drop_all, append-nil, take_all)
 
 there : (numbers : List ℕ) (i n : ℕ) → slice_get numbers i ≡ Some n → Contains numbers n
 there numbers i n at = (i, (slice_get_within numbers i n at), (get_or_from_slice_get numbers i n n at))
@@ -70,6 +69,4 @@ both_marks clauses (q ∷ rules) (ms ∷ lists) rule marks are now = (are.0, bot
 
 pub one_more_marked : (clauses : List ClauseTree) (rules : List Rule) (r : ℕ) (rule : Rule) (old new : List (List Bool)) (marks : List Bool) → slice_get rules r ≡ Some rule
     → AreAllMarks clauses (take r rules) old → AreMarks clauses rule marks → new ≡ old ++ marks ∷ [] → AreAllMarks clauses (take (r + 1) rules) new
-one_more_marked clauses rules r rule old new marks at before now same =
-    subst (λ rs. AreAllMarks clauses rs new) (sym (take_next rules r rule at))
-    (subst (AreAllMarks clauses (take r rules ++ rule ∷ [])) (sym same) (both_marks clauses (take r rules) old rule marks before now))
+one_more_marked clauses rules r rule old new marks at before now same = grind (arith, take_next rules r rule, both_marks clauses (take r rules) old rule marks before now)

@@ -23,30 +23,10 @@ record Sees (size : ℕ) (numbers : List ℕ) (seen after : List Bool) (queue lo
   total : unset after + length longer ≡ unset seen + length queue
 
 sees_none : (size : ℕ) (seen : List Bool) (queue : List ℕ) → Sees size [] seen seen queue queue
-sees_none size seen queue = record {
-  as_many = refl;
-  kept = λ n h. h;
-  each = λ n h. absurd (contains_none n h);
-  queued = λ all n h. all n h;
-  more = [];
-  extends = sym (append-nil queue);
-  within = λ h. h;
-  total = refl;
-}
+sees_none size seen queue = grind (arith, contains_none, append-nil)
 
 sees_old : (size n : ℕ) (seen : List Bool) (queue : List ℕ) → n < length seen → holds seen n ≡ true → Sees size (n ∷ []) seen (slice_set seen n true) queue queue
-sees_old size n seen queue low h =
-    let same : slice_set seen n true ≡ seen = set_again seen n h in
-    record {
-      as_many = length-set seen n true;
-      kept = λ m k. set_kept seen n m k;
-      each = λ m k. ⊎_elim (λ e. subst (λ x. holds (slice_set seen n true) x ≡ true) e (set_here seen n low)) (λ later. absurd (contains_none m later)) (contains_cases n [] m k);
-      queued = λ all m k. ⊎_elim (λ e. all m (subst (λ x. holds seen x ≡ true) e h)) (λ old. all m old) (set_or seen n m k);
-      more = [];
-      extends = sym (append-nil queue);
-      within = λ k. k;
-      total = ap (λ flags. unset flags + length queue) same;
-    }
+sees_old size n seen queue low h = grind (arith, set_again, length-set, set_kept, set_here, contains_none, contains_cases, set_or, append-nil)
 
 sees_new : (size n : ℕ) (seen : List Bool) (queue : List ℕ) → n < length seen → n < size → holds seen n ≡ false → Sees size (n ∷ []) seen (slice_set seen n true) queue (queue ++ n ∷ [])
 sees_new size n seen queue low within_size h =
@@ -92,9 +72,7 @@ sees_all size (n ∷ numbers) seen queue long low =
 
 sees : (size : ℕ) (numbers : List ℕ) (seen after : List Bool) (queue longer : List ℕ) → length seen ≡ size → AllByRecursion (λ n. n < size) numbers
     → after ≡ seen_after numbers seen → longer ≡ queue_after numbers seen queue → Sees size numbers seen after queue longer
-sees size numbers seen after queue longer long low e f =
-    subst (λ flags. Sees size numbers seen flags queue longer) (sym e)
-    (subst (λ list. Sees size numbers seen (seen_after numbers seen) queue list) (sym f) (sees_all size numbers seen queue long low))
+sees size numbers seen after queue longer long low e f = grind (arith, sees_all size numbers seen queue long low)
 
 got_before : (xs ys : List ℕ) (k n : ℕ) → k < length xs → slice_get (xs ++ ys) k ≡ Some n → slice_get xs k ≡ Some n
 got_before [] ys k n low got = absurd (omega arith)
@@ -216,10 +194,7 @@ same_total size numbers seen after queue longer long low e f = (sees size number
 -- the queue is no shorter
 pub no_shorter : (size : ℕ) (numbers : List ℕ) (seen after : List Bool) (queue longer : List ℕ) → length seen ≡ size → AllByRecursion (λ n. n < size) numbers
     → after ≡ seen_after numbers seen → longer ≡ queue_after numbers seen queue → length queue ≤ length longer
-no_shorter size numbers seen after queue longer long low e f =
-    let more = sees size numbers seen after queue longer long low e f in
-    let is : length longer ≡ length queue + length more.more = ap length more.extends ∙ length-append queue more.more in
-    omega arith
+no_shorter size numbers seen after queue longer long low e f = grind (arith, sees size numbers seen after queue longer long low e f, length-append)
 
 -- when all of the queue is done, all that is reached is
 pub closed : (clauses : List ClauseTree) (size : ℕ) (seen : List Bool) (first queue : List ℕ) (calls : List Call) (done : ℕ)

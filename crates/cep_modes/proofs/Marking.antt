@@ -1,5 +1,5 @@
 -- What is marked while calls are followed back.
-use Rattle.std.proofs.Common.{◌≡◌, ◌<◌, ⊎_elim, ℕ, suc, Bool, true, false, List, length, drop, slice_set, refl, ap, sym, subst, arith}
+use Rattle.std.proofs.Common.{◌≡◌, ◌<◌, ⊎_elim, ℕ, Bool, true, false, List, length, drop, slice_set, sym, subst, arith}
 use Rattle.std.specs.List.{AllByRecursion, Contains}
 use Rattle.std.proofs.lemmas.List.{drop_all}
 use Rattle.cep_modes.specs.declared.reach.Call.{Call}
@@ -25,15 +25,7 @@ more_led calls old marked after call among callee is led n h =
 
 pub more_fewer : (old marked after : List Bool) (found : Bool) (caller : ℕ) → caller < length marked → holds marked caller ≡ false → after ≡ slice_set marked caller true
     → (found ≡ true → unset marked < unset old) → (found ≡ false → marked ≡ old) → unset after < unset old
-more_fewer old marked after found caller low new is fewer same =
-    let one : suc (unset (slice_set marked caller true)) ≡ unset marked = set_fewer marked caller low new in
-    let now : unset after ≡ unset (slice_set marked caller true) = ap unset is in
-    by found fewer same one now
-  where
-    by : (found : Bool) → (found ≡ true → unset marked < unset old) → (found ≡ false → marked ≡ old)
-        → suc (unset (slice_set marked caller true)) ≡ unset marked → unset after ≡ unset (slice_set marked caller true) → unset after < unset old
-    by true fewer same one now = let less : unset marked < unset old = fewer refl in omega arith
-    by false fewer same one now = let equal : unset marked ≡ unset old = ap unset (same refl) in omega arith
+more_fewer old marked after found caller low new is fewer same = grind (arith, set_fewer)
 
 -- what leads to what leads to marked ones does so too
 pub led_by_led : (calls : List Call) (old middle : List Bool) → ((n : ℕ) → holds middle n ≡ true → IsLed calls old n) → (n : ℕ) → IsLed calls middle n → IsLed calls old n

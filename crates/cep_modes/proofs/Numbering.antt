@@ -1,16 +1,12 @@
 -- The numbers of pairs: they are in range, and they tell the predicate and the positions.
-use Rattle.std.proofs.Common.{◌≡◌, ◌<◌, ◌+◌, ◌*◌, ◌/◌, ◌%◌, ◌==◌, ℕ, zero, suc, Bool, true, false, cond, refl, ap, sym, ◌∙◌, subst, arith}
+use Rattle.std.proofs.Common.{◌≡◌, ◌<◌, ◌+◌, ◌*◌, ◌/◌, ◌%◌, ◌==◌, ℕ, zero, suc, Bool, true, false, cond, refl, ap, ◌∙◌, arith}
 use Rattle.cep_term.specs.Tree.{Trees, AtomTree, none, more}
 use Rattle.cep_rule.specs.Groundness.{Known, is_known, positions_known}
 use Rattle.cep_modes.specs.Places.{positions_of, set_number, room, IsPlain, pair_place, IsAmong}
 
 pub number_low : (known : Known) (args : Trees) → set_number known args < room args
 number_low known none = omega arith
-number_low known (more t rest) = by (is_known known t) (set_number known rest) (room rest) (number_low known rest)
-  where
-    by : (b : Bool) (n r : ℕ) → n < r → 2 * n + cond b 1 0 < 2 * r
-    by true n r low = omega arith
-    by false n r low = omega arith
+number_low known (more t rest) = grind (arith, number_low known rest)
 
 nothing_at : (i : ℕ) → positions_of 0 i ≡ false
 nothing_at zero = refl
@@ -47,17 +43,7 @@ number_small known goal plain = let few : set_number known goal.args < room goal
 
 -- the pair of a place is that of the predicate with the positions that are known
 pub from_place : (pairs : ℕ → Known → Type 0) (known : Known) (goal : AtomTree) → IsPlain 32 goal → IsAmong pairs (pair_place known goal) → pairs goal.pred (positions_known known goal.args)
-from_place pairs known goal plain among =
-    let n : ℕ = set_number known goal.args in
-    let m : ℕ = goal.pred * 256 + n in
-    let low : n < 256 = number_small known goal plain in
-    subst (λ positions. pairs goal.pred positions) (ap positions_of (second_part goal.pred n low) ∙ positions_told known goal.args)
-    (subst (λ pred. pairs pred (positions_of (m % 256))) (first_part goal.pred n low) among)
+from_place pairs known goal plain among = grind (arith, number_small known goal plain, second_part, positions_told known goal.args, first_part, goal.args, goal.pred)
 
 pub to_place : (pairs : ℕ → Known → Type 0) (known : Known) (goal : AtomTree) → IsPlain 32 goal → pairs goal.pred (positions_known known goal.args) → IsAmong pairs (pair_place known goal)
-to_place pairs known goal plain pair =
-    let n : ℕ = set_number known goal.args in
-    let m : ℕ = goal.pred * 256 + n in
-    let low : n < 256 = number_small known goal plain in
-    subst (λ pred. pairs pred (positions_of (m % 256))) (sym (first_part goal.pred n low))
-    (subst (λ positions. pairs goal.pred positions) (sym (ap positions_of (second_part goal.pred n low) ∙ positions_told known goal.args)) pair)
+to_place pairs known goal plain pair = grind (arith, number_small known goal plain, first_part, second_part, positions_told known goal.args, goal.args, goal.pred)

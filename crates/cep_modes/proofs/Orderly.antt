@@ -1,5 +1,5 @@
 -- What parts that are in order keep: their atoms are plain, and all numbers of pairs are in range.
-use Rattle.std.proofs.Common.{◌≡◌, ◌<◌, ◌≤◌, ◌+◌, ◌*◌, ◌/◌, ◌%◌, ◌==◌, ℕ, zero, suc, Bool, true, false, cond, List, [], ◌∷◌, ◌++◌, length, slice_get, Option, None, Some, refl, arith}
+use Rattle.std.proofs.Common.{◌≡◌, ◌<◌, ◌≤◌, ◌+◌, ◌*◌, ◌/◌, ◌%◌, ℕ, zero, suc, Bool, true, false, List, [], ◌∷◌, length, slice_get, Option, None, Some, refl, arith}
 use Rattle.std.specs.Prelude.{IsSomeAnd}
 use Rattle.std.specs.List.{AllByRecursion}
 use Rattle.std.proofs.lemmas.Option.{slice_get_within}
@@ -12,12 +12,12 @@ use Rattle.cep_rule.specs.declared.signature.Con.{Con}
 use Rattle.cep_rule.specs.declared.rule.Rule.{Rule}
 use Rattle.cep_rule.specs.Patterns.{ClauseTree}
 use Rattle.cep_rule.specs.Binding.{needed_of}
-use Rattle.cep_rule.specs.Groundness.{Known, nothing, known_at, known_after, known_after_all, are_known}
+use Rattle.cep_rule.specs.Groundness.{Known, known_after}
 use Rattle.cep_rule.specs.Limits.{IsSmallSignature, IsSmallRule, IsSmallClause}
 use Rattle.cep_rule.specs.Typing.{HaveSorts, IsTyped}
 use Rattle.cep_rule.specs.Program.{IsTypedRule, IsTypedClause}
 use Rattle.cep_rule.specs.TypeLaws.{TypeLaws}
-use Rattle.cep_modes.specs.Places.{positions_of, room, IsPlain, IsPlainClause, places_of, zero_unless, clause_callees, callees_of, callees, rule_places, all_places}
+use Rattle.cep_modes.specs.Places.{positions_of, room, IsPlain, IsPlainClause, places_of, zero_unless, callees_of, callees, all_places}
 use Rattle.cep_modes.proofs.Numbering.{place_low}
 
 -- so many things that each are or are not
@@ -134,18 +134,7 @@ zero_low size low false = (low, tt)
 
 callees_of_low : (preds pred : ℕ) (positions : Known) (clauses : List ClauseTree) → AllByRecursion (IsFineClause preds) clauses → AllByRecursion (λ n. n < preds * 256 + 1) (callees_of pred positions clauses)
 callees_of_low preds pred positions [] all = tt
-callees_of_low preds pred positions (clause ∷ clauses) all =
-    let known : Known = known_at positions clause.head.args in
-    by (clause.head.pred == pred)
-    (both_all (λ n. n < preds * 256 + 1) (places_of known clause.goals) (zero_unless (are_known (known_after_all known clause.goals) clause.head.args))
-    (places_low preds known clause.goals all.0.goals)
-    (zero_low (preds * 256 + 1) (omega arith) (are_known (known_after_all known clause.goals) clause.head.args)))
-    (callees_of_low preds pred positions clauses all.1)
-  where
-    by : (b : Bool) → AllByRecursion (λ n. n < preds * 256 + 1) (clause_callees positions clause) → AllByRecursion (λ n. n < preds * 256 + 1) (callees_of pred positions clauses)
-        → AllByRecursion (λ n. n < preds * 256 + 1) (cond b (clause_callees positions clause ++ callees_of pred positions clauses) (callees_of pred positions clauses))
-    by true here later = both_all (λ n. n < preds * 256 + 1) (clause_callees positions clause) (callees_of pred positions clauses) here later
-    by false here later = later
+callees_of_low preds pred positions (clause ∷ clauses) all = grind (arith, both_all, places_low, zero_low, clause.head.args, clause.head.pred, clause.goals, all.0.goals, callees_of_low preds pred positions clauses all.1, all.1)
 
 pub callees_low : (preds : ℕ) (clauses : List ClauseTree) → AllByRecursion (IsFineClause preds) clauses → (n : ℕ) → AllByRecursion (λ m. m < preds * 256 + 1) (callees clauses n)
 callees_low preds clauses all zero = tt
@@ -153,5 +142,4 @@ callees_low preds clauses all (suc n) = callees_of_low preds (n / 256) (position
 
 pub all_low : (preds : ℕ) (rules : List Rule) → AllByRecursion (IsFineRule preds) rules → AllByRecursion (λ n. n < preds * 256 + 1) (all_places rules)
 all_low preds [] all = tt
-all_low preds (rule ∷ rules) all =
-    both_all (λ n. n < preds * 256 + 1) (rule_places rule) (all_places rules) (places_low preds (known_after_all nothing (needed_of rule)) rule.backs all.0.backs) (all_low preds rules all.1)
+all_low preds (rule ∷ rules) all = grind (arith, both_all, places_low, rule.backs, all.0.backs, all_low preds rules all.1, all.1)

@@ -1,5 +1,5 @@
 -- Clauses by the numbers of those of one predicate.
-use Rattle.std.proofs.Common.{◌≡◌, ◌<◌, ◌+◌, ◌-◌, ◌*◌, ◌/◌, ◌%◌, ◌==◌, ℕ, zero, suc, Bool, true, false, cond, List, [], ◌∷◌, ◌++◌, length, map, slice_get, slice_index_or, Some, Vec, Global, refl, ap, sym, ◌∙◌, add-zero, zero-add, arith, subst}
+use Rattle.std.proofs.Common.{◌≡◌, ◌<◌, ◌+◌, ◌-◌, ◌*◌, ◌/◌, ◌%◌, ◌==◌, ℕ, zero, suc, Bool, true, false, cond, List, [], ◌∷◌, ◌++◌, length, map, slice_get, slice_index_or, Some, Vec, Global, refl, ap, sym, ◌∙◌, add-zero, zero-add, arith}
 use Rattle.std.specs.List.{AllByRecursion}
 use Rattle.cep_base.proofs.Lists.{holds_at, get_mapped, all_weaker}
 use Rattle.std.proofs.lemmas.Option.{slice_get_read}
@@ -18,21 +18,12 @@ pub table_at : (clauses : List ClauseTree) (pred : ℕ) (table : List (List ℕ)
     → IsClauseTable clauses pred table → slice_get table k ≡ Some numbers → numbers ≡ numbers_of (pred + k) 0 clauses
 table_at clauses pred [] k numbers is got = cc
 table_at clauses pred (one ∷ table) zero numbers is got = let same : one ≡ numbers = cc in sym same ∙ is.0 ∙ ap (λ p. numbers_of p 0 clauses) (sym (add-zero pred))
-table_at clauses pred (one ∷ table) (suc k) numbers is got =
-    let same : suc pred + k ≡ pred + suc k = omega arith in
-    table_at clauses (suc pred) table k numbers is.1 got ∙ ap (λ p. numbers_of p 0 clauses) same
+table_at clauses pred (one ∷ table) (suc k) numbers is got = grind (arith, table_at clauses (suc pred) table k numbers is.1 got, is.1)
 
 -- numbers of clauses are those of clauses that are there
 pub numbers_there : (pred i : ℕ) (clauses : List ClauseTree) → AllByRecursion (λ n. n < i + length clauses) (numbers_of pred i clauses)
 numbers_there pred i [] = tt
-numbers_there pred i (clause ∷ clauses) =
-    by (clause.head.pred == pred)
-    (all_weaker (λ n. n < suc i + length clauses) (λ n. n < i + length (clause ∷ clauses)) (numbers_of pred (suc i) clauses) (λ n h. omega arith) (numbers_there pred (suc i) clauses))
-  where
-    by : (b : Bool) → AllByRecursion (λ n. n < i + length (clause ∷ clauses)) (numbers_of pred (suc i) clauses)
-        → AllByRecursion (λ n. n < i + length (clause ∷ clauses)) (cond b (i ∷ numbers_of pred (suc i) clauses) (numbers_of pred (suc i) clauses))
-    by true later = (omega arith, later)
-    by false later = later
+numbers_there pred i (clause ∷ clauses) = grind (arith, all_weaker, clause.head.pred, numbers_there pred (suc i) clauses)
 
 by_numbers : (positions : Known) (all : List ClauseTree) (pred i : ℕ) (clauses : List ClauseTree)
     → ((k : ℕ) → slice_get clauses k ≡ slice_get all (i + k))
@@ -53,32 +44,21 @@ by_numbers positions all pred i (clause ∷ clauses) same =
 told_at : (clauses : List ClauseTree) (table : List (List ℕ)) (n : ℕ) (numbers : List ℕ)
     → IsClauseTable clauses 0 table → slice_get table (n / 256) ≡ Some numbers
     → callees_by (positions_of (n % 256)) clauses numbers ≡ callees clauses (suc n)
-told_at clauses table n numbers is got =
-    let same : numbers ≡ numbers_of (n / 256) 0 clauses = table_at clauses 0 table (n / 256) numbers is got ∙ ap (λ p. numbers_of p 0 clauses) (zero-add (n / 256)) in
-    ap (callees_by (positions_of (n % 256)) clauses) same
-    ∙ by_numbers (positions_of (n % 256)) clauses (n / 256) 0 clauses (λ k. ap (slice_get clauses) (sym (zero-add k)))
+told_at clauses table n numbers is got = grind (arith, table_at clauses 0 table (n / 256) numbers is got, zero-add (n / 256), by_numbers, zero-add)
 
 -- a pair calls what the clauses with the numbers of its predicate call
 pub callees_told : (clauses : List ClauseTree) (table : List (List ℕ)) (n m : ℕ) (numbers : List ℕ)
     → IsClauseTable clauses 0 table → slice_get table (m / 256) ≡ Some numbers → ((n ≡ 0) → ⊥) → m ≡ n - 1
     → callees_by (positions_of (m % 256)) clauses numbers ≡ callees clauses n
-callees_told clauses table n m numbers is got some less =
-    let e : n ≡ suc m = omega arith in
-    told_at clauses table m numbers is got ∙ ap (callees clauses) (sym e)
+callees_told clauses table n m numbers is got some less = grind (arith, told_at)
 
 -- the number of a clause that is called is one of a clause
 pub number_there : (clauses : List ClauseTree) (table : List (List ℕ)) (k j number : ℕ) (numbers : List ℕ)
     → IsClauseTable clauses 0 table → slice_get table k ≡ Some numbers → slice_get numbers j ≡ Some number → number < length clauses
-number_there clauses table k j number numbers is got there =
-    let same : numbers ≡ numbers_of k 0 clauses = table_at clauses 0 table k numbers is got ∙ ap (λ p. numbers_of p 0 clauses) (zero-add k) in
-    let P : List ℕ → Type 0 = λ list. AllByRecursion (λ n. n < 0 + length clauses) list in
-    let low : number < 0 + length clauses = holds_at (λ n. n < 0 + length clauses) numbers j number (subst P (sym same) (numbers_there k 0 clauses)) there in
-    omega arith
+number_there clauses table k j number numbers is got there = grind (arith, table_at clauses 0 table k numbers is got, zero-add k, holds_at, numbers_there k 0 clauses)
 
 -- the list of numbers that is read from a table is there
 pub listed : (table : List (Vec ℕ Global)) (n m : ℕ) (numbers : Vec ℕ Global) (list : List ℕ)
     → n < length table * 256 + 1 → ((n ≡ 0) → ⊥) → m ≡ n - 1 → numbers ≡ slice_index_or table (m / 256) numbers → list ≡ numbers.items
     → slice_get (map (λ (v : Vec ℕ Global). v.items) table) (m / 256) ≡ Some list
-listed table n m numbers list low some less read same =
-    let within : m / 256 < length table = omega arith in
-    get_mapped (λ (v : Vec ℕ Global). v.items) table (m / 256) numbers (slice_get_read table (length table) (m / 256) numbers refl within read) ∙ ap Some (sym same)
+listed table n m numbers list low some less read same = grind (arith, get_mapped, slice_get_read)
