@@ -15,7 +15,7 @@ use Rattle.cep_refusal.specs.First.{standing, first_of, first_in}
 use Rattle.cep_source.specs.Variables.{blanks_behind}
 use Rattle.cep_types.specs.Sites.{Site, Wanted, sites_from, sites_in, wanted_from, node_types, pred_types, type_of}
 use Rattle.cep_types.specs.Clashes.{type_at, clash_if, clash_of, atom_clashes, scope_clashes}
-use Rattle.cep_types.specs.Met.{type_met, is_open, AreMet}
+use Rattle.cep_types.specs.Met.{type_met, is_variable_or_blank, AreMet}
 use Rattle.cep_base.proofs.Foremost.{foremost_append, foremost_of_three}
 use Rattle.cep_base.proofs.ForemostLoops.{foremost_parts}
 use Rattle.cep_types.proofs.Meeting.{no_sites}
@@ -71,13 +71,13 @@ pub scope_found : (source : Source) (atoms : List RawAtom) (variables : Variable
 scope_found source atoms variables met = clashes_same source (type_met source variables.firsts) (type_of source atoms) (types_met source atoms variables met) atoms
 
 -- an atom without variables and blanks has no variables
-none_wanted : (source : Source) (blanks : ℕ) (next : List (List ℕ)) (nodes : List RawNode) → list_any (λ (node : RawNode). is_open node.kind) nodes ≡ false → wanted_from source blanks (sites_from source next nodes) ≡ []
+none_wanted : (source : Source) (blanks : ℕ) (next : List (List ℕ)) (nodes : List RawNode) → list_any (λ (node : RawNode). is_variable_or_blank node.kind) nodes ≡ false → wanted_from source blanks (sites_from source next nodes) ≡ []
 none_wanted source blanks [] nodes none = refl
 none_wanted source blanks (wants ∷ next) [] none = refl
 none_wanted source blanks (wants ∷ next) (node ∷ nodes) none =
     grind (arith, none_wanted source (blanks_behind blanks node.kind) (node_types source node.kind node.at ++ next) nodes)
 
-pub one_closed : (source : Source) (atom : RawAtom) (none : Variables) → none ≡ none_met → list_any (λ (node : RawNode). is_open node.kind) atom.nodes ≡ false
+pub one_closed : (source : Source) (atom : RawAtom) (none : Variables) → none ≡ none_met → list_any (λ (node : RawNode). is_variable_or_blank node.kind) atom.nodes ≡ false
     → atom_clashes source (type_met source none.firsts) atom ≡ scope_clashes source (atom ∷ [])
 one_closed source atom none is closed =
     sym (append-nil (atom_clashes source (type_met source none.firsts) atom)) ∙ clashes_same source (type_met source none.firsts) (type_of source (atom ∷ [])) same (atom ∷ []) where

@@ -40,10 +40,10 @@ pub record AreMet (source : Source) (atoms : List RawAtom) (old new : Variables)
   pub covered : map (λ site. site.node) (sites_of source atoms) ≡ raw_nodes atoms
 
 -- whether a node is a variable or a blank
-abbrev pub is_open : RawKind → Bool
-is_open kind.App = false
-is_open kind.Var = true
-is_open kind.Blank = true
+abbrev pub is_variable_or_blank : RawKind → Bool
+is_variable_or_blank kind.App = false
+is_variable_or_blank kind.Var = true
+is_variable_or_blank kind.Blank = true
 
 -- the head of a node by its number
 abbrev pub head_by : RawKind → ℕ → ℕ → Head

@@ -7,7 +7,7 @@ ghost use Rattle.cep_parse.specs.Raw.{atoms_of};
 ghost use Rattle.cep_source.specs.Items.{said};
 ghost use Rattle.cep_source.specs.Kept.{atom_at, clause_item};
 ghost use Rattle.cep_types.specs.Clashes.{type_at, clash_of, atom_clashes, scope_clashes, state_clashes, rule_clashes, clause_clashes, context_clashes, trace_clashes};
-ghost use Rattle.cep_types.specs.Met.{type_met, is_open};
+ghost use Rattle.cep_types.specs.Met.{type_met, is_variable_or_blank};
 ghost use Rattle.cep_types.specs.Sites.{Mistyped, clause_scope};
 
 use crate::sites::{Expected, pending, site};
@@ -121,7 +121,7 @@ fn clash_among(
 
 // Whether a node is a variable or a blank.
 fn has_variable(nodes: &[RawNode]) -> bool
-    ensures { result ≡ list_any (λ node. is_open node.kind) nodes.now }
+    ensures { result ≡ list_any (λ node. is_variable_or_blank node.kind) nodes.now }
 {
     nodes.iter().any(|node| node.kind != RawKind::App)
 }
