@@ -4,6 +4,9 @@ use itoa::Buffer;
 use std::alloc::{AllocError, Global};
 use std::marker::Model;
 
+// How many bytes a text has room for once it has any, so that a short line takes one piece of memory.
+const FIRST_ROOM: usize = 64;
+
 /// Text that grows at its end, as bytes.
 #[derive(Drop)]
 pub struct Text {
@@ -38,7 +41,12 @@ impl Text {
                 self.bytes.push(*byte)?;
                 Ok(())
             }
-            _ => self.bytes.extend_from_slice(bytes),
+            _ => {
+                if self.bytes.capacity() == 0 {
+                    self.bytes.reserve_exact(FIRST_ROOM)?;
+                }
+                self.bytes.extend_from_slice(bytes)
+            }
         }
     }
 
