@@ -13,4 +13,4 @@ standing-requires g c =
     let few = c.if-level-len.false in
     let premises = c.len-else-rule-len.ensures in
     subst (λ (found : Net). IsSomeAnd (slice_get found.memories c.args.rule) (λ (memory : Beta). c.args.level < length memory.levels)) (sym c.matcher.ensures.matcher)
-    (level_there c.args.program.now net.height net.alpha net.memories net.mentions net.agenda c.in_ok-config.ensures.matcher c.args.rule c.args.level c.get.result.now numbered (omega (arith, few, premises)))
+    (level_there c.args.program.now net c.in_ok-config.ensures.matcher c.args.rule c.args.level c.get.result.now numbered (omega (arith, few, premises)))
