@@ -1,5 +1,5 @@
 -- The first atom of which a listing says another count than a state has, and the first that lacks.
-use Rattle.std.proofs.Common.{◌≡◌, ◌⊎◌, inl, inr, ⊎_elim, ℕ, zero, suc, ◌+◌, ◌-◌, ◌<◌, ◌≤◌, ◌==◌, true, false, List, [], ◌∷◌, length, Some, Contains, refl, sym, ap, subst, ◌∙◌, arith, Less, Equal, Greater}
+use Rattle.std.proofs.Common.{◌≡◌, ◌⊎◌, inl, inr, ⊎_elim, ℕ, zero, suc, ◌+◌, ◌-◌, ◌<◌, ◌≤◌, true, false, List, [], ◌∷◌, length, Some, Contains, refl, sym, ap, subst, ◌∙◌, arith, Less, Equal, Greater}
 use Rattle.std.specs.Prelude.{slice_get, nat_lt}
 use Rattle.std.specs.Ordering.{ordering_reverse}
 use Rattle.std.specs.FinMap.{len-entries}
@@ -21,13 +21,7 @@ use Rattle.cep_check.specs.Places.{Agree, AgreeBelow}
 
 -- a place of a listing is before, at or after another
 pub three_ways : (i j : ℕ) → (i < j) ⊎ ((i ≡ j) ⊎ (j < i))
-three_ways i j = elim (nat_lt i j) as (λ t. nat_lt i j ≡ t → (i < j) ⊎ ((i ≡ j) ⊎ (j < i))) [
-  | true ↦ λ e. inl (ltb-true i j e)
-  | false ↦ λ e. elim (i == j) as (λ t. (i == j) ≡ t → (i < j) ⊎ ((i ≡ j) ⊎ (j < i))) [
-    | true ↦ λ f. inr (inl (eqb-true i j f))
-    | false ↦ λ f. let low = ltb-false i j e in let apart = eqb-false i j f in inr (inr (omega arith))
-  ] refl
-] refl
+three_ways i j = grind (arith, ltb-true, eqb-true, ltb-false, eqb-false)
 
 -- an element has a place
 pub place_in : (xs : List (AtomTree × ℕ)) (x : AtomTree × ℕ) → Contains xs x → (i : ℕ) × (slice_get xs i ≡ Some x)
@@ -44,17 +38,13 @@ Rises xs = (i j : ℕ) (a b : AtomTree) (m n : ℕ) → i < j → slice_get xs i
 pub listing_rises : (xs : List (AtomTree × ℕ)) → AtomsRise xs → Rises xs
 listing_rises [] rising i j a b m n h p q = absurd (let within = slice_get_within [] i (a, m) p in omega arith)
 listing_rises (x ∷ xs) rising zero zero a b m n h p q = absurd (omega arith)
-listing_rises (x ∷ xs) rising zero (suc j) a b m n h p q =
-    subst (λ (e : AtomTree × ℕ). atom_cmp e.0 b ≡ Less) (some_same x (a, m) p) (holds_at (λ (later : AtomTree × ℕ). atom_cmp x.0 later.0 ≡ Less) xs j (b, n) rising.0 q)
+listing_rises (x ∷ xs) rising zero (suc j) a b m n h p q = grind (arith, some_same, holds_at, x.0, rising.0)
 listing_rises (x ∷ xs) rising (suc i) zero a b m n h p q = absurd (omega arith)
 listing_rises (x ∷ xs) rising (suc i) (suc j) a b m n h p q = listing_rises xs rising.1 i j a b m n (omega arith) p q
 
 module _ (laws : BagLaws) where
   pub not_itself : (a : AtomTree) → atom_cmp a a ≡ Less → ⊥
-  not_itself a less = clash (sym less ∙ tied_itself laws.total a)
-    where
-      clash : Less ≡ Equal → ⊥
-      clash e = cc
+  not_itself a less = grind (arith, tied_itself, laws.total)
 
   -- what stands at a place or after it is not less than what is not greater than it
   not_below : (xs : List (AtomTree × ℕ)) → Rises xs → (place : ℕ) (x y : AtomTree) (n : ℕ) → slice_get xs place ≡ Some (y, n) → (x ≡ y) ⊎ (atom_cmp x y ≡ Less) → (j : ℕ) (a : AtomTree) (m : ℕ) → place ≤ j → slice_get xs j ≡ Some (a, m) → atom_cmp a x ≡ Less → ⊥
@@ -73,25 +63,14 @@ module _ (laws : BagLaws) where
 
   -- what is less than what stands at a place does not stand there or after it
   not_from : (xs : List (AtomTree × ℕ)) → Rises xs → (place : ℕ) (x y : AtomTree) (n : ℕ) → slice_get xs place ≡ Some (y, n) → atom_cmp x y ≡ Less → (j : ℕ) (m : ℕ) → place ≤ j → slice_get xs j ≡ Some (x, m) → ⊥
-  not_from xs rises place x y n at less j m behind there = ⊎_elim
-      (λ (after : place < j). not_itself x (laws.total.trans x y x less (rises place j y x n m after at there)))
-      (λ either. ⊎_elim
-      (λ (here : place ≡ j).
-      let same : y ≡ x = ap (λ (e : AtomTree × ℕ). e.0) (some_same (y, n) (x, m) (sym at ∙ ap (slice_get xs) here ∙ there)) in
-      not_itself x (subst (λ b. atom_cmp x b ≡ Less) same less))
-      (λ (before : j < place). absurd (omega arith))
-      either)
-      (three_ways place j)
+  not_from xs rises place x y n at less j m behind there = grind (arith, not_itself, some_same, three_ways place j, laws.total.trans)
 
   entries_rise : (state : Multiset) → Rises (finite.entries state)
   entries_rise state i j a b m n h p q = laws.earlier_is_less state i j a b m n h p q
 
   -- an atom that is no entry is not there
   pub no_entry : (state : Multiset) (a : AtomTree) → ((j : ℕ) (m : ℕ) → slice_get (finite.entries state) j ≡ Some (a, m) → ⊥) → 0 ≡ count_of state a
-  no_entry state a none = elim (nat_lt 0 (count_of state a)) as (λ t. nat_lt 0 (count_of state a) ≡ t → 0 ≡ count_of state a) [
-    | true ↦ λ e. let there = laws.entry_there state a (ltb-true 0 (count_of state a) e) in absurd (none there.0 (count_of state a) there.1)
-    | false ↦ λ e. let low = ltb-false 0 (count_of state a) e in omega arith
-  ] refl
+  no_entry state a none = grind (arith, ltb-true, ltb-false, laws.entry_there)
 
   module _ (signature : Signature) (listing : List (AtomTree × ℕ)) (is : IsListing signature listing) (state : Multiset) (place : ℕ) (below : AgreeBelow place listing state) where
     -- atoms below one that no later place goes below are told alike
@@ -136,10 +115,7 @@ module _ (laws : BagLaws) where
 
     -- and a line whose atom the state does not have after here is of an atom that is not there
     not_there : (x : AtomTree) (n : ℕ) → slice_get listing place ≡ Some (x, n) → ((j : ℕ) (m : ℕ) → place ≤ j → slice_get (finite.entries state) j ≡ Some (x, m) → ⊥) → 0 ≡ count_of state x
-    not_there x n at none = no_entry state x (λ j m there. ⊎_elim
-        (λ (before : j < place). not_itself x (listing_rises listing is.rising j place x x m n before (below j before ∙ there) at))
-        (λ (behind : (j ≡ place) ⊎ (place < j)). none j m (⊎_elim (λ (here : j ≡ place). omega arith) (λ (after : place < j). omega arith) behind) there)
-        (three_ways j place))
+    not_there x n at none = grind (arith, no_entry, not_itself, listing_rises, three_ways)
 
     beyond : {P : Type 0} (xs : List (AtomTree × ℕ)) (j : ℕ) (e : AtomTree × ℕ) → length xs ≤ place → place ≤ j → slice_get xs j ≡ Some e → P
     beyond xs j e short behind there = let within = slice_get_within xs j e there in absurd (omega arith)
@@ -211,10 +187,7 @@ same_lists (x ∷ xs) (y ∷ ys) n short short' agree =
 
 -- a listing and a state that agree at one place more
 pub agree_more : (listing : List (AtomTree × ℕ)) (state : Multiset) (n : ℕ) → AgreeBelow n listing state → Agree n listing state → AgreeBelow (n + 1) listing state
-agree_more listing state n below here = λ place within. elim (place == n) as (λ t. (place == n) ≡ t → Agree place listing state) [
-  | true ↦ λ e. subst (λ m. Agree m listing state) (sym (eqb-true place n e)) here
-  | false ↦ λ e. let apart = eqb-false place n e in below place (omega arith)
-] refl
+agree_more listing state n below here = grind (arith, eqb-true, eqb-false)
 
 -- Of the atoms at the first places no more copies are needed than the state has.
 abbrev pub EnoughBelow : ℕ → Multiset → Multiset → Type 0
@@ -222,23 +195,10 @@ EnoughBelow places needed state = (place : ℕ) (a : AtomTree) (m : ℕ) → pla
 
 module _ (laws : BagLaws) (needed state : Multiset) where
   pub enough_more : (n : ℕ) (x : AtomTree) (m : ℕ) → slice_get (finite.entries needed) n ≡ Some (x, m) → m ≤ count_of state x → EnoughBelow n needed state → EnoughBelow (n + 1) needed state
-  enough_more n x m at enough below = λ place a k within there. elim (place == n) as (λ t. (place == n) ≡ t → k ≤ count_of state a) [
-    | true ↦ λ e.
-        let same = some_same (x, m) (a, k) (sym at ∙ ap (slice_get (finite.entries needed)) (sym (eqb-true place n e)) ∙ there) in
-        subst (λ (entry : AtomTree × ℕ). entry.1 ≤ count_of state entry.0) same enough
-    | false ↦ λ e. let apart = eqb-false place n e in below place a k (omega arith) there
-  ] refl
+  enough_more n x m at enough below = grind (arith, some_same, eqb-true, eqb-false)
 
   enough_of : (n : ℕ) → EnoughBelow n needed state → (a : AtomTree) → ((j : ℕ) (m : ℕ) → n ≤ j → slice_get (finite.entries needed) j ≡ Some (a, m) → ⊥) → count_of needed a ≤ count_of state a
-  enough_of n below a none = elim (nat_lt 0 (count_of needed a)) as (λ t. nat_lt 0 (count_of needed a) ≡ t → count_of needed a ≤ count_of state a) [
-    | true ↦ λ e.
-        let at = laws.entry_there needed a (ltb-true 0 (count_of needed a) e) in
-        ⊎_elim
-        (λ (before : at.0 < n). below at.0 a (count_of needed a) before at.1)
-        (λ (behind : (at.0 ≡ n) ⊎ (n < at.0)). absurd (none at.0 (count_of needed a) (⊎_elim (λ (here : at.0 ≡ n). omega arith) (λ (after : n < at.0). omega arith) behind) at.1))
-        (three_ways at.0 n)
-    | false ↦ λ e. let low = ltb-false 0 (count_of needed a) e in omega arith
-  ] refl
+  enough_of n below a none = grind (arith, ltb-true, three_ways, ltb-false, laws.entry_there)
 
   -- the first that lacks
   pub lacks_here : (n : ℕ) (x : AtomTree) (have need : ℕ) → slice_get (finite.entries needed) n ≡ Some (x, need) → have ≡ count_of state x → have < need → EnoughBelow n needed state → IsFirstLack needed state x have need

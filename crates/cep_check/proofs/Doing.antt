@@ -1,31 +1,27 @@
 -- What a step of a log does to where the steps have led.
-use Rattle.std.proofs.Common.{◌≡◌, inl, inr, ⊎_elim, ℕ, List, length, sym, subst, arith}
+use Rattle.std.proofs.Common.{◌≡◌, ℕ, List, length, arith}
 use Rattle.std.specs.List.{AllByRecursion}
 use Rattle.cep_base.proofs.Lists.{all_weaker, all_mapped}
-use Rattle.cep_term.specs.Tree.{Tree, AtomTree, IsGroundAtom, IsAtomInRange, atom_of}
-use Rattle.cep_term.specs.Multiset.{Multiset}
+use Rattle.cep_term.specs.Tree.{Tree, AtomTree, IsGroundAtom, IsAtomInRange}
 use Rattle.cep_rule.specs.declared.signature.Signature.{Signature}
 use Rattle.cep_rule.specs.declared.rule.Rule.{Rule}
 use Rattle.cep_rule.specs.declared.parts.Parts.{Parts}
 use Rattle.cep_rule.specs.Typing.{IsTyped, AreValues}
 use Rattle.cep_rule.specs.TypeLaws.{TypeLaws}
-use Rattle.cep_rule.specs.State.{IsState, Fits}
 use Rattle.cep_rule.specs.Instances.{full_instance, full_instances}
-use Rattle.cep_rule.specs.Step.{Step}
-use Rattle.cep_rule.specs.Steps.{Spot, stage_after}
+use Rattle.cep_rule.specs.Steps.{Spot}
 use Rattle.cep_log.specs.declared.log.LogStep.{LogStep}
 use Rattle.cep_step.specs.declared.change.Change.{Change}
 use Rattle.cep_step.specs.Changes.{edited, changed, IsChangeOf}
 use Rattle.cep_step.specs.Spots.{IsSpotOf}
 use Rattle.cep_check.specs.declared.cause.Cause.{Cause}
-use Rattle.cep_check.specs.declared.cause.Cause.TheVariants.{StartStage, StartState, OtherStage, NotContained, NotProved, TooHigh, NotQuiet, OverLimit, StageLine, MidState, NotEnded, EndState}
-use Rattle.cep_check.specs.Causes.{IsFirstDifference, IsInTurn, IsWithinLimits, IsStepCause}
+use Rattle.cep_check.specs.declared.cause.Cause.TheVariants.{StageLine, MidState}
+use Rattle.cep_check.specs.Causes.{IsInTurn, IsWithinLimits, IsStepCause}
 use Rattle.cep_check.specs.Walking.{IsStageCause, IsDoneStep, IsMidCause, IsReadyStep}
 
 -- the instances of typed atoms by values of the right types
 pub in_range_all : TypeLaws → (signature : Signature) (kinds : List ℕ) (values : List Tree) → AreValues signature.cons kinds values → (atoms : List AtomTree) → AllByRecursion (IsTyped signature kinds) atoms → AllByRecursion (IsAtomInRange (length values)) atoms
-in_range_all types signature kinds values are atoms typed = all_weaker (IsTyped signature kinds) (IsAtomInRange (length values)) atoms
-    (λ a typed. subst (λ n. IsAtomInRange n a) (sym (types.as_many signature.cons kinds values are)) (types.in_range signature kinds a typed)) typed
+in_range_all types signature kinds values are atoms typed = grind (arith, all_weaker, types.as_many, signature.cons, types.in_range)
 
 pub ground_all : TypeLaws → (signature : Signature) (kinds : List ℕ) (values : List Tree) → AreValues signature.cons kinds values → (atoms : List AtomTree) → AllByRecursion (IsTyped signature kinds) atoms → AllByRecursion IsGroundAtom (full_instances values atoms)
 ground_all types signature kinds values are atoms typed = all_mapped (IsTyped signature kinds) IsGroundAtom (full_instance values) atoms (λ a typed. types.ground signature kinds values a are typed) typed
@@ -42,19 +38,7 @@ module _ (program : Parts) (height : ℕ) (old : Spot) (rule : Rule) (step : Log
 
   -- it is done
   pub is_done : (new : Spot) → new ≡ changed old change → step.stage ≡ rule.next → IsDoneStep program height old new rule step × IsSpotOf program new
-  is_done new same staged = rw same (
-    record {
-      machine = record {
-        numbered = ready.numbered;
-        values = ready.values;
-        in_turn = ⊎_elim (λ own. inl own) (λ leaving. inr (leaving, in_turn.quiet leaving)) in_turn.is_proved.can_take.of_stage;
-        proved = in_turn.is_proved.proved;
-        steps = is.leads;
-      };
-      staged = record { within = within; stage = staged };
-    },
-    is.of_program,
-  )
+  is_done new same staged = grind (arith, within, ready.numbered, ready.values, in_turn.quiet, in_turn.is_proved.can_take.of_stage, in_turn.is_proved.proved, is.leads, is.of_program)
 
 -- a step that is done is followed by another listing than that of where it leads
 pub mid_cause : (program : Parts) (height : ℕ) (old new : Spot) (rule : Rule) (step : LogStep) (cause : Cause) → IsDoneStep program height old new rule step → IsMidCause step.mid new.state cause → IsStepCause program height old rule step cause

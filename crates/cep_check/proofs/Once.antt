@@ -1,5 +1,5 @@
 -- What comes first is one: the first offer, the first derivation that fails, the first difference and the first lack.
-use Rattle.std.proofs.Common.{◌≡◌, ◌⊎◌, inl, inr, ⊎_elim, ℕ, zero, suc, ◌<◌, ◌≤◌, List, [], ◌∷◌, take, Some, refl, sym, ap, subst, ◌∙◌, arith, Less, Equal, Greater}
+use Rattle.std.proofs.Common.{◌≡◌, ◌⊎◌, ⊎_elim, ℕ, zero, suc, ◌<◌, ◌≤◌, List, [], ◌∷◌, take, Some, refl, sym, ap, subst, ◌∙◌, arith, Less, Equal, Greater}
 use Rattle.std.specs.Prelude.{slice_get}
 use Rattle.std.specs.Ordering.{ordering_reverse}
 use Rattle.std.specs.Cmp.{IsTotalOrder}
@@ -59,8 +59,7 @@ Fails program height proof goal = Proves program proof goal × (proof_height pro
 
 -- none fails before the first that does
 not_later : (program : Parts) (height : ℕ) (proofs : List ProofTree) (goals : List AtomTree) (place place' : ℕ) (proof proof' : ProofTree) (goal goal' : AtomTree) (at : IsAtPremise program height proofs goals place proof goal) (at' : IsAtPremise program height proofs goals place' proof' goal') → Fails program height proof goal → at.before < at'.before → ⊥
-not_later program height proofs goals place place' proof proof' goal goal' at at' fails before =
-    fails (proofs_at program height (take at'.before proofs) (take at'.before goals) at.before proof goal at'.proved (got_before proofs at'.before at.before before ∙ at.derivation) (got_before goals at'.before at.before before ∙ at.premise))
+not_later program height proofs goals place place' proof proof' goal goal' at at' fails before = grind (arith, proofs_at, got_before, at'.before, at.before, at'.proved, at.derivation, at.premise)
 
 -- the first that fails stands at one place
 pub fails_once : (program : Parts) (height : ℕ) (proofs : List ProofTree) (goals : List AtomTree) (place place' : ℕ) (proof proof' : ProofTree) (goal goal' : AtomTree) (at : IsAtPremise program height proofs goals place proof goal) (at' : IsAtPremise program height proofs goals place' proof' goal') → Fails program height proof goal → Fails program height proof' goal' → at.before ≡ at'.before
@@ -74,11 +73,7 @@ fails_once program height proofs goals place place' proof proof' goal goal' at a
 
 module _ (laws : BagLaws) where
   three_atoms : (a b : AtomTree) → (atom_cmp a b ≡ Less) ⊎ ((a ≡ b) ⊎ (atom_cmp b a ≡ Less))
-  three_atoms a b = elim (atom_cmp a b) as (λ o. atom_cmp a b ≡ o → (atom_cmp a b ≡ Less) ⊎ ((a ≡ b) ⊎ (atom_cmp b a ≡ Less))) [
-    | Less ↦ λ e. inl e
-    | Equal ↦ λ e. inr (inl (laws.ties a b e))
-    | Greater ↦ λ e. inr (inr (laws.total.antisymm b a ∙ ap ordering_reverse e))
-  ] refl
+  three_atoms a b = grind (arith, laws.ties, laws.total.antisymm)
 
   -- a listing says one count of an atom
   says_once : (listing : List (AtomTree × ℕ)) → AtomsRise listing → (a : AtomTree) (m n : ℕ) → ListsCount listing a m → ListsCount listing a n → m ≡ n
@@ -121,19 +116,8 @@ module _ (laws : BagLaws) where
       (three_atoms a b)
 
   lacks_no_earlier : (needed state : Multiset) (a b : AtomTree) (have have' need need' : ℕ) → IsFirstLack needed state a have need → IsFirstLack needed state b have' need' → atom_cmp a b ≡ Less → ⊥
-  lacks_no_earlier needed state a b have have' need need' first first' less =
-      let enough = first'.before a less in
-      let wanted = first.wanted in
-      let there = first.there in
-      let lacks = first.lacks in
-      omega arith
+  lacks_no_earlier needed state a b have have' need need' first first' less = grind (arith, first'.before, first.wanted, first.there, first.lacks)
 
   -- one first lack
   pub lack_once : (needed state : Multiset) (a b : AtomTree) (have have' need need' : ℕ) → IsFirstLack needed state a have need → IsFirstLack needed state b have' need' → (a ≡ b) × (have ≡ have') × (need ≡ need')
-  lack_once needed state a b have have' need need' first first' = ⊎_elim
-      (λ less. absurd (lacks_no_earlier needed state a b have have' need need' first first' less))
-      (λ either. ⊎_elim
-      (λ (same : a ≡ b). (same, first.there ∙ ap (count_of state) same ∙ sym first'.there, first.wanted ∙ ap (count_of needed) same ∙ sym first'.wanted))
-      (λ less. absurd (lacks_no_earlier needed state b a have' have need' need first' first less))
-      either)
-      (three_atoms a b)
+  lack_once needed state a b have have' need need' first first' = grind (arith, lacks_no_earlier, three_atoms, first.there, first'.there, first.wanted, first'.wanted)

@@ -32,10 +32,7 @@ AreToldAlike program one two = cause_text program one ≡ cause_text program two
 
 module _ (laws : BagLaws) (order : OffersOrdered) (one : LeadsToOne) (needs : NeedsLeft) (program : Parts) where
   pub counts_alike : (words between : List ℕ) (said said' is is' : ℕ) (a b : AtomTree) → (a ≡ b) × (said ≡ said') × (is ≡ is') → counts_text program.signature words said between is a ≡ counts_text program.signature words said' between is' b
-  counts_alike words between said said' is is' a b same =
-      ap (λ n. counts_text program.signature words n between is a) same.1
-      ∙ ap (λ n. counts_text program.signature words said' between n a) same.2
-      ∙ ap (λ x. counts_text program.signature words said' between is' x) same.0
+  counts_alike words between said said' is is' a b same = grind (arith, program.signature, same.1, same.2, same.0)
 
   pub stages_alike : (words : List ℕ) (said said' is is' : ℕ) → said ≡ said' → is ≡ is' → stages_text program words said is ≡ stages_text program words said' is'
   stages_alike words said said' is is' same same' = ap (λ n. stages_text program words n is) same ∙ ap (λ n. stages_text program words said' n) same'
@@ -68,9 +65,7 @@ module _ (laws : BagLaws) (order : OffersOrdered) (one : LeadsToOne) (needs : Ne
 
     passed_all_before : (k n m : ℕ) → m ≡ k + n → Passed m → Passed n
     passed_all_before zero n m e p = let same : m ≡ n = omega (arith, e) in subst Passed same p
-    passed_all_before (suc k) n m e p =
-        let same : m ≡ suc (k + n) = omega (arith, e) in
-        passed_all_before k n (k + n) refl (passed_before (k + n) (subst Passed same p))
+    passed_all_before (suc k) n m e p = grind (arith, passed_before)
 
     -- how many tests a step with the cause has passed
     abbrev pub tests : Cause → ℕ
@@ -102,12 +97,7 @@ module _ (laws : BagLaws) (order : OffersOrdered) (one : LeadsToOne) (needs : Ne
 
     fails_next : (cause : Cause) → IsStepCause program height old rule step cause → Passed (suc (tests cause)) → ⊥
     fails_next (OtherStage number) comes passed = comes.1 passed
-    fails_next (NotContained atom have need) comes passed =
-        let enough = passed.contained (atom_of atom) in
-        let wanted = comes.1.wanted in
-        let there = comes.1.there in
-        let lacks = comes.1.lacks in
-        omega arith
+    fails_next (NotContained atom have need) comes passed = grind (arith, passed.contained, comes.1.wanted, comes.1.there, comes.1.lacks)
     fails_next (NotProved place) comes passed = comes.1.3 (proofs_at program height step.proofs goals comes.1.2.before comes.1.0 comes.1.1 passed.proved comes.1.2.derivation comes.1.2.premise).0
     fails_next (TooHigh place high) comes passed =
         let low = (proofs_at program height step.proofs goals comes.1.2.before comes.1.0 comes.1.1 passed.proved comes.1.2.derivation comes.1.2.premise).1 in
@@ -143,9 +133,7 @@ module _ (laws : BagLaws) (order : OffersOrdered) (one : LeadsToOne) (needs : Ne
     high_fails proof goal high is above = λ ok. let low = ok.1 in omega arith
 
     proved_and_not : {P : Type 0} (place place' : ℕ) (proof proof' : ProofTree) (goal goal' : AtomTree) (at : IsAtPremise program height step.proofs goals place proof goal) (at' : IsAtPremise program height step.proofs goals place' proof' goal') → at.before ≡ at'.before → (¬ Proves program proof goal) → Proves program proof' goal' → P
-    proved_and_not place place' proof proof' goal goal' at at' same not proves = absurd (not (
-        subst (λ z. Proves program z goal) (some_same proof' proof (sym at'.derivation ∙ ap (slice_get step.proofs) (sym same) ∙ at.derivation))
-        (subst (λ z. Proves program proof' z) (some_same goal' goal (sym at'.premise ∙ ap (slice_get goals) (sym same) ∙ at.premise)) proves)))
+    proved_and_not place place' proof proof' goal goal' at at' same not proves = grind (arith, some_same, at'.derivation, step.proofs, at.derivation, at'.premise, at.premise)
 
     other_stage_alike : (number : ℕ) (comes : IsStepCause program height old rule step (OtherStage number)) (other : Cause) → IsStepCause program height old rule step other → 0 ≡ tests other → AreToldAlike program (OtherStage number) other
     other_stage_alike number comes (OtherStage number') comes' same = ap (λ n. codes "OtherStage " ++ offer_name (slice_get program.rules n)) (comes.0 ∙ sym comes'.0)

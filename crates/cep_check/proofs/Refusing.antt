@@ -15,7 +15,7 @@ use Rattle.cep_rule.specs.Derivations.{ProofTree, Proves, proof_height}
 use Rattle.cep_rule.specs.State.{Fits}
 use Rattle.cep_rule.specs.Stages.{own_group, leaving_group}
 use Rattle.cep_rule.specs.Step.{Step}
-use Rattle.cep_rule.specs.Steps.{Spot, AreProofs, IsMachineStep, stage_after, start_spot}
+use Rattle.cep_rule.specs.Steps.{Spot, AreProofs, IsMachineStep, stage_after}
 use Rattle.cep_log.specs.declared.log.Log.{Log}
 use Rattle.cep_log.specs.declared.log.LogStep.{LogStep}
 use Rattle.cep_log.specs.declared.log.LogMid.{LogMid}
@@ -35,8 +35,7 @@ LeadsToOne = (signature : Signature) (rule : Rule) (values : List Tree) (old one
 pub proofs_at : (program : Parts) (height : ℕ) (proofs : List ProofTree) (goals : List AtomTree) (n : ℕ) (proof : ProofTree) (goal : AtomTree) → AreProofs program height proofs goals → slice_get proofs n ≡ Some proof → slice_get goals n ≡ Some goal → Proves program proof goal × (proof_height proof ≤ height)
 proofs_at program height [] goals n proof goal all p q = absurd cc
 proofs_at program height (x ∷ proofs) [] n proof goal all p q = absurd all
-proofs_at program height (x ∷ proofs) (y ∷ goals) zero proof goal all p q =
-    subst (λ z. Proves program z goal × (proof_height z ≤ height)) (some_same x proof p) (subst (λ z. Proves program x z × (proof_height x ≤ height)) (some_same y goal q) (all.0, all.1))
+proofs_at program height (x ∷ proofs) (y ∷ goals) zero proof goal all p q = grind (arith, some_same, all.0, all.1)
 proofs_at program height (x ∷ proofs) (y ∷ goals) (suc n) proof goal all p q = proofs_at program height proofs goals n proof goal all.2 p q
 
 -- a step needs its left side
@@ -115,9 +114,7 @@ module _ (laws : BagLaws) (one : LeadsToOne) (needs : NeedsLeft) (program : Part
   pub end_clash : (height : ℕ) (last : Spot) (end : Option LogEnd) (cause : Cause) → IsEndCause program height last end cause → IsSomeAnd end (IsLegalEnd program height last) → ⊥
   end_clash height last None NotEnded comes legal = legal
   end_clash height last None cause comes legal = comes
-  end_clash height last (Some end) (NotQuiet offer) comes legal =
-      let quiet = legal.quiet comes.0 in
-      ⊎_elim (λ own. quiet.0 (offer, own.is)) (λ leaving. quiet.1 (offer, leaving.1.is)) comes.1
+  end_clash height last (Some end) (NotQuiet offer) comes legal = grind (arith, legal.quiet, comes.0, comes.1)
   end_clash height last (Some end) (EndState atom said is) comes legal = no_difference end.state last.state (atom_of atom) said is legal.state comes.1
   end_clash height last (Some end) cause comes legal = comes
 
@@ -134,7 +131,4 @@ module _ (laws : BagLaws) (one : LeadsToOne) (needs : NeedsLeft) (program : Part
   start_clash log cause comes stage start = comes
 
   pub refused_clash : (log : Log) (line : ℕ) (cause : Cause) → IsLogRefused program log line cause → IsLegal program log → ⊥
-  refused_clash log line cause refused legal = ⊎_elim
-      (λ start. start_clash log cause start.1 legal.stage legal.start)
-      (λ later. from_clash log log.steps (start_spot program) legal.last line cause later.2 legal.steps legal.ending)
-      refused
+  refused_clash log line cause refused legal = grind (arith, start_clash, from_clash, legal.stage, legal.start, log.steps, legal.last, legal.steps, legal.ending)

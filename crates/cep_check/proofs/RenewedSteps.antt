@@ -1,6 +1,6 @@
 -- The steps of a legal log are renewed one after another.
-use Rattle.std.proofs.Common.{◌≡◌, ℕ, zero, suc, ◌+◌, ◌<◌, ◌≤◌, cond, List, [], ◌∷◌, ◌++◌, length, length-append, drop, append_assoc, append-nil, Bool, true, false, Option, Some, None, refl, sym, ap, ◌∙◌, subst, arith, add-one}
-use Rattle.std.specs.Prelude.{slice_get, is_some, IfSome, IsSomeAnd}
+use Rattle.std.proofs.Common.{◌≡◌, ℕ, zero, suc, ◌+◌, ◌<◌, ◌≤◌, List, [], ◌∷◌, ◌++◌, length, length-append, drop, append_assoc, append-nil, Some, None, refl, sym, ap, ◌∙◌, subst, arith, add-one}
+use Rattle.std.specs.Prelude.{slice_get, is_some, IfSome}
 use Rattle.std.specs.List.{AllByRecursion, flat_map}
 use Rattle.std.specs.FinMap as finite
 use Rattle.std.proofs.lemmas.Grind.{flat_map-append}
@@ -10,13 +10,11 @@ use Rattle.cep_term.specs.Tree.{AtomTree}
 use Rattle.cep_term.specs.Multiset.{Multiset}
 use Rattle.cep_rule.specs.declared.rule.Rule.{Rule}
 use Rattle.cep_rule.specs.declared.parts.Parts.{Parts}
-use Rattle.cep_rule.specs.Typing.{AreValues}
 use Rattle.cep_rule.specs.State.{IsState, Fits}
 use Rattle.cep_step.specs.declared.limit.Limit.{Limit}
 use Rattle.cep_step.specs.declared.limit.Limit.TheVariants.{Atom, State}
 use Rattle.cep_step.specs.Passing.{Passes}
 use Rattle.cep_step.specs.Spots.{IsSpotOf}
-use Rattle.cep_rule.specs.Instances.{full_instances}
 use Rattle.cep_rule.specs.Derivations.{ProofTree}
 use Rattle.cep_rule.specs.Shapes.{IsProofOf}
 use Rattle.cep_rule.specs.Steps.{Spot, StepsTo, AreProofs, start_spot}
@@ -59,11 +57,7 @@ module _ (laws : RenewLaws) (program : Parts) (is : IsProgram program) (height :
 
   -- a legal step can be put
   pub legal_put : (old new : Spot) (step : LogStep) → IsStepOf program step → IsLegalStep program height old new step → CanBePut program step
-  legal_put old new step of legal = record {
-    offer = subst (λ (found : Option Rule). IsSomeAnd found (λ rule. AreValues program.signature.cons rule.kinds step.offer.values)) (sym legal.machine.numbered) legal.machine.values;
-    proofs = all_of_shape step.proofs (full_instances step.offer.values legal.rule.backs) legal.machine.proved;
-    stage = of.in_range;
-  }
+  legal_put old new step of legal = grind (arith, all_of_shape, program.signature.cons, step.offer.values, legal.machine.numbered, legal.machine.values, step.proofs, legal.rule.backs, legal.machine.proved, of.in_range)
 
   -- and can be done
   legal_can : (old new : Spot) (step : LogStep) → IsLegalStep program height old new step → CanBeDone program step old
@@ -104,16 +98,10 @@ module _ (laws : RenewLaws) (program : Parts) (is : IsProgram program) (height :
   -- Listings
 
   due_holds : (P : List (AtomTree × ℕ) → Type 0) (number : ℕ) (state : Multiset) → P (finite.entries state) → IfSome (due_mid number state) (λ mid. P mid.state)
-  due_holds P number state holds = cases (has_listing Two number) where
-    cases : (is : Bool) → IfSome (cond is (Some (listed state)) None) (λ mid. P mid.state)
-    cases true = holds
-    cases false = tt
+  due_holds P number state holds = grind (arith, listed)
 
   due_wanted : (number : ℕ) (state : Multiset) → is_some (due_mid number state) ≡ has_listing Two number
-  due_wanted number state = cases (has_listing Two number) where
-    cases : (is : Bool) → is_some (cond is (Some (listed state)) None) ≡ is
-    cases true = refl
-    cases false = refl
+  due_wanted number state = grind (arith, listed)
 
   -- Steps
 

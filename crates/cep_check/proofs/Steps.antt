@@ -1,6 +1,6 @@
 -- Causes of a step, from what each part of the check finds.
-use Rattle.std.proofs.Common.{◌≡◌, inl, inr, ⊎_elim, ℕ, zero, suc, ◌+◌, ◌<◌, ◌≤◌, ◌==◌, true, false, List, [], ◌∷◌, length, take, drop, Some, refl, sym, ap, subst, ◌∙◌, arith, add-one}
-use Rattle.std.specs.Prelude.{slice_get, ◌/◌, ◌%◌, ◌↔◌, IsSome, IfSome}
+use Rattle.std.proofs.Common.{◌≡◌, inr, ⊎_elim, ℕ, zero, suc, ◌+◌, ◌<◌, ◌≤◌, List, [], ◌∷◌, length, take, drop, Some, sym, ap, subst, ◌∙◌, arith, add-one}
+use Rattle.std.specs.Prelude.{slice_get, ◌/◌, ◌↔◌, IsSome, IfSome}
 use Rattle.std.proofs.lemmas.Bool.{eqb-true, eqb-false}
 use Rattle.std.proofs.lemmas.List.{take_all}
 use Rattle.cep_base.proofs.Lists.{some_same, get_mapped, holds_at}
@@ -18,16 +18,13 @@ use Rattle.cep_log.specs.declared.log.Log.{Log}
 use Rattle.cep_log.specs.declared.log.LogStep.{LogStep}
 use Rattle.cep_log.specs.Legal.{IsStepOf, IsLegalStep, AreLegalSteps}
 use Rattle.cep_check.specs.declared.cause.Cause.{Cause}
-use Rattle.cep_check.specs.declared.cause.Cause.TheVariants.{StartStage, StartState, OtherStage, NotContained, NotProved, TooHigh, NotQuiet, OverLimit, StageLine, MidState, NotEnded, EndState}
+use Rattle.cep_check.specs.declared.cause.Cause.TheVariants.{NotContained, NotProved, TooHigh, NotQuiet}
 use Rattle.cep_check.specs.Causes.{IsOfStage, CanTake, IsProvedStep, IsStepCause, cause_line, IsRefusedFrom}
 use Rattle.cep_check.specs.Walking.{IsReadyStep, IsLackCause, IsProofAt, IsOneProofCause, IsProofCause, IsQuietCause}
 
 -- a rule's group says of which stage it is
 pub of_stage : (stage : ℕ) (rule : Rule) → rule.group / 2 ≡ stage → IsOfStage stage rule
-of_stage stage rule half = elim (rule.group % 2 == 0) as (λ t. (rule.group % 2 == 0) ≡ t → IsOfStage stage rule) [
-  | true ↦ λ e. let even = eqb-true (rule.group % 2) 0 e in inl (omega arith)
-  | false ↦ λ e. let odd = eqb-false (rule.group % 2) 0 e in inr (omega arith)
-] refl
+of_stage stage rule half = grind (arith, eqb-true, eqb-false, rule.group)
 
 pub of_no_stage : (stage : ℕ) (rule : Rule) → (rule.group / 2 ≡ stage → ⊥) → ¬ (IsOfStage stage rule)
 of_no_stage stage rule apart = λ is. ⊎_elim (λ (own : rule.group ≡ own_group stage). apart (omega arith)) (λ (leaving : rule.group ≡ leaving_group stage). apart (omega arith)) is
@@ -36,9 +33,7 @@ of_no_stage stage rule apart = λ is. ⊎_elim (λ (own : rule.group ≡ own_gro
 proofs_one : (program : Parts) (height : ℕ) (proofs : List ProofTree) (goals : List AtomTree) (n : ℕ) (proof : ProofTree) (goal : AtomTree) → AreProofs program height (take n proofs) (take n goals) → slice_get proofs n ≡ Some proof → slice_get goals n ≡ Some goal → IsProofAt program height proof goal → AreProofs program height (take (suc n) proofs) (take (suc n) goals)
 proofs_one program height [] goals n proof goal all p q is = absurd cc
 proofs_one program height (x ∷ proofs) [] n proof goal all p q is = absurd cc
-proofs_one program height (x ∷ proofs) (y ∷ goals) zero proof goal all p q is =
-    let first : IsProofAt program height x y = subst (λ z. IsProofAt program height z y) (sym (some_same x proof p)) (subst (λ z. IsProofAt program height proof z) (sym (some_same y goal q)) is) in
-    (first.0, first.1, tt)
+proofs_one program height (x ∷ proofs) (y ∷ goals) zero proof goal all p q is = grind (arith, some_same)
 proofs_one program height (x ∷ proofs) (y ∷ goals) (suc n) proof goal all p q is = (all.0, all.1, proofs_one program height proofs goals n proof goal all.2 p q is)
 
 pub proofs_more : (program : Parts) (height : ℕ) (proofs : List ProofTree) (goals : List AtomTree) (n : ℕ) (proof : ProofTree) (goal : AtomTree) → AreProofs program height (take n proofs) (take n goals) → slice_get proofs n ≡ Some proof → slice_get goals n ≡ Some goal → IsProofAt program height proof goal → AreProofs program height (take (n + 1) proofs) (take (n + 1) goals)
@@ -86,9 +81,7 @@ refused_next program log steps n step old new line cause at legal rest = refused
 
 pub refused_here : (program : Parts) (log : Log) (steps : List LogStep) (n : ℕ) (step : LogStep) (old : Spot) (cause : Cause) → slice_get steps n ≡ Some step → ((rule : Rule) × (slice_get program.rules step.offer.rule ≡ Some rule) × IsStepCause program log.height old rule step cause) → IsRefusedFrom program log old (drop n steps) (cause_line step cause) cause
 refused_here program log [] n step old cause at comes = absurd cc
-refused_here program log (x ∷ steps) zero step old cause at comes =
-    let same : step ≡ x = sym (some_same x step at) in
-    inl (ap (λ (s : LogStep). cause_line s cause) same, subst (λ (s : LogStep). (rule : Rule) × (slice_get program.rules s.offer.rule ≡ Some rule) × IsStepCause program log.height old rule s cause) same comes)
+refused_here program log (x ∷ steps) zero step old cause at comes = grind (arith, some_same, program.rules, log.height)
 refused_here program log (x ∷ steps) (suc n) step old cause at comes = refused_here program log steps n step old cause at comes
 
 -- no proof is of what is not fit

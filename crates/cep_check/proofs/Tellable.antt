@@ -1,5 +1,5 @@
 -- What checking a log comes to can be told.
-use Rattle.std.proofs.Common.{◌≡◌, ◌⊎◌, ⊎_elim, ℕ, zero, suc, ◌<◌, Bool, true, false, cond, ◌||◌, List, [], ◌∷◌, ◌++◌, map, length, Contains, Option, Some, None, refl, sym, subst, ◌∙◌, arith}
+use Rattle.std.proofs.Common.{◌≡◌, ◌⊎◌, ⊎_elim, ℕ, zero, suc, ◌<◌, Bool, true, false, ◌||◌, List, [], ◌∷◌, ◌++◌, map, length, Contains, Option, Some, None, refl, sym, subst, ◌∙◌, arith}
 use Rattle.std.specs.Prelude.{slice_get, filter, IfSome, IsSomeAnd}
 use Rattle.std.specs.List.{AllByRecursion}
 use Rattle.cep_base.proofs.Elements.{all_at, both_all}
@@ -20,7 +20,7 @@ use Rattle.cep_rule.specs.Program.{IsTypedRule, IsProgram}
 use Rattle.cep_rule.specs.Offers.{Applies}
 use Rattle.cep_rule.specs.Shapes.{IsOfferOf}
 use Rattle.cep_rule.specs.Step.{Step}
-use Rattle.cep_rule.specs.Steps.{Spot, start_spot}
+use Rattle.cep_rule.specs.Steps.{Spot}
 use Rattle.cep_text.specs.Texts.{IsTypedGround}
 use Rattle.cep_log.specs.declared.log.Log.{Log}
 use Rattle.cep_log.specs.declared.log.LogStep.{LogStep}
@@ -57,9 +57,7 @@ ComesFrom = (signature : Signature) (rule : Rule) (values : List Tree) (old new 
 -- what holds of the atoms of all premises holds of those that pass a test
 all_passing : (P : AtomTree → Type 0) (test : PremiseTree → Bool) (premises : List PremiseTree) → AllByRecursion P (map (λ premise. premise.atom) premises) → AllByRecursion P (map (λ premise. premise.atom) (filter test premises))
 all_passing P test [] all = tt
-all_passing P test (premise ∷ premises) all =
-    let rest = all_passing P test premises all.1 in
-    elim (test premise) as (λ t. AllByRecursion P (map (λ (other : PremiseTree). other.atom) (cond t (premise ∷ filter test premises) (filter test premises)))) [ true ↦ (all.0, rest) | false ↦ rest ]
+all_passing P test (premise ∷ premises) all = grind (arith, all_passing P test premises all.1, all.1, all.0)
 
 some_held : (t : Bool) (n m : ℕ) → m ≡ held t n → 0 < m → 0 < n
 some_held true n m e some = omega arith
@@ -104,8 +102,7 @@ module _ (bags : BagLaws) (types : TypeLaws) (comes_from : ComesFrom) (program :
   offer_of height state offer applies = subst (λ found. IsSomeAnd found (λ (rule : Rule). AreValues program.signature.cons rule.kinds offer.values)) (sym applies.numbered) applies.values
 
   start_told : (log : Log) (cause : Cause) → IsLogOf program log → IsStartCause program log cause → IsTellableCause program cause
-  start_told log (StartStage said is) of_program comes =
-      (subst (λ stage. stage < length program.stages) (sym comes.0) of_program.stage, subst (λ stage. stage < length program.stages) (sym comes.1) kept.in_range.start_stage)
+  start_told log (StartStage said is) of_program comes = grind (arith, program.stages, comes.0, of_program.stage, comes.1, kept.in_range.start_stage)
   start_told log (StartState atom said is) of_program comes = difference_writable log.start program.start (atom_of atom) said is of_program.start.each start_writable comes.1
   start_told log cause of_program comes = absurd comes
 
@@ -115,9 +112,7 @@ module _ (bags : BagLaws) (types : TypeLaws) (comes_from : ComesFrom) (program :
       let is = ready program rule step kept of_program numbered in
       lack_writable rule step.offer.values old.state (atom_of atom) have need is.values is.typed comes.1
   step_told height old rule step (NotQuiet offer) writable of_program numbered comes = offer_of height old.state offer comes.2.is.applies
-  step_told height old rule step (StageLine said is) writable of_program numbered comes =
-      let known = ready program rule step kept of_program numbered in
-      (subst (λ (stage : Option ℕ). IfSome stage (λ number. number < length program.stages)) comes.1 of_program.in_range, subst (λ (stage : Option ℕ). IfSome stage (λ number. number < length program.stages)) comes.2 known.next)
+  step_told height old rule step (StageLine said is) writable of_program numbered comes = grind (arith, ready, program.stages, comes.1, of_program.in_range, comes.2)
   step_told height old rule step (MidState line atom said is) writable of_program numbered comes =
       let known = ready program rule step kept of_program numbered in
       let mid = comes.2 in
@@ -130,10 +125,7 @@ module _ (bags : BagLaws) (types : TypeLaws) (comes_from : ComesFrom) (program :
   step_told height old rule step cause writable of_program numbered comes = absurd comes
 
   end_told : (height : ℕ) (last : Spot) (end : Option LogEnd) (cause : Cause) → IfSome end (λ (end : LogEnd). IsListing program.signature end.state) → AreWritable program last.state → IsEndCause program height last end cause → IsTellableCause program cause
-  end_told height last (Some end) (NotQuiet offer) listing writable comes = ⊎_elim
-      (λ own. offer_of height last.state offer own.is.applies)
-      (λ leaving. offer_of height last.state offer leaving.1.is.applies)
-      comes.1
+  end_told height last (Some end) (NotQuiet offer) listing writable comes = grind (arith, offer_of, last.state, comes.1)
   end_told height last (Some end) (EndState atom said is) listing writable comes = difference_writable end.state last.state (atom_of atom) said is listing.each writable comes.1
   end_told height last (Some end) cause listing writable comes = absurd comes
   end_told height last None NotEnded listing writable comes = tt
@@ -154,7 +146,4 @@ module _ (bags : BagLaws) (types : TypeLaws) (comes_from : ComesFrom) (program :
 
   pub verdict_told : (log : Log) (verdict : Verdict) → IsLogOf program log → IsVerdict program log verdict → IsTellable program verdict
   verdict_told log (Accepted steps) of_program is = tt
-  verdict_told log (Refused line cause) of_program is = ⊎_elim
-      (λ start. start_told log cause of_program start.1)
-      (λ later. from_told log log.steps (start_spot program) line cause of_program of_program.steps start_writable later.2)
-      is
+  verdict_told log (Refused line cause) of_program is = grind (arith, start_told, from_told, start_writable, log.steps, of_program.steps)
