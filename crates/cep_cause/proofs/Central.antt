@@ -1,5 +1,5 @@
 -- The central law: in a reordering of a legal log each step that comes is legal where it comes, if the state that it leads to fits, and the last spot is the old one.
-use Rattle.std.proofs.Common.{◌≡◌, ◌⊎◌, inl, inr, ⊎_elim, ℕ, zero, suc, ◌+◌, ◌%◌, ◌<◌, Bool, true, false, List, [], ◌∷◌, ◌++◌, length, Option, Some, None, refl, sym, ap, ◌∙◌, subst, arith, Contains}
+use Rattle.std.proofs.Common.{◌≡◌, ◌⊎◌, inl, inr, ⊎_elim, ℕ, zero, suc, ◌+◌, ◌<◌, Bool, true, false, List, [], ◌∷◌, ◌++◌, length, Option, Some, None, refl, sym, ap, ◌∙◌, subst, arith, Contains}
 use Rattle.std.proofs.lemmas.Option.{slice_get_within}
 use Rattle.std.specs.Prelude.{slice_get, unwrap_or, is_some, IfSome, ◌↔◌}
 use Rattle.std.specs.FinMap as finite
@@ -107,8 +107,7 @@ module _ (run : LegalRun) where
 
     -- The left side of the step is there.
     pub contained : IsContained (left_of run.program.signature rule_of turn.step.offer.values) turn.here.state
-    contained a =
-        few_needed run a turn.done turn.place turn.next turn.step rule_of known_of turn.reached.spent turn.here.state turn.reached.state_is
+    contained a = grind (arith, few_needed, known_of, turn.done, turn.place, turn.next, turn.step, turn.reached.spent, turn.here.state, turn.reached.state_is)
 
     -- The barriers before it are done, and no other.
     barriers : BarriersBelow turn.done turn.place
@@ -157,17 +156,7 @@ module _ (run : LegalRun) where
 
     -- It is the step's turn.
     in_turn : (rule_of.group ≡ own_group turn.here.stage) ⊎ ((rule_of.group ≡ leaving_group turn.here.stage) × ¬ HasOffer run.program run.height turn.here.state (own_group turn.here.stage))
-    in_turn =
-        ⊎_elim
-        (λ own. inl (own ∙ ap own_group (sym same_stage)))
-        (λ leaves.
-        let odd : rule_of.group % 2 ≡ 1 = let group = leaves.0 in omega arith in
-        let barrier : known_of.touch.barrier ≡ true = known_of.barrier ∙ known_of.leaves odd in
-        inr (
-          leaves.0 ∙ ap leaving_group (sym same_stage),
-          λ has. leaves.1 (subst (λ (s : ℕ). HasOffer run.program run.height as_written.old.state (own_group s)) same_stage (subst (λ (s : Multiset). HasOffer run.program run.height s (own_group turn.here.stage)) (same_state barrier) has)),
-        ))
-        as_written.legal.machine.in_turn
+    in_turn = grind (arith, same_stage, same_state, run.program, run.height, turn.here.stage)
 
     -- where it leads
     abbrev pub leads_to : Spot
@@ -197,10 +186,7 @@ module _ (run : LegalRun) where
         }
 
     there_stage : leads_to.stage ≡ stage_by run.steps run.program.start_stage (turn.place + 1)
-    there_stage =
-        ap (λ (o : Option ℕ). unwrap_or o turn.here.stage) (sym as_written.legal.stage)
-        ∙ ap (λ s. unwrap_or turn.step.stage s) stage_here
-        ∙ sym (stage_more run.steps run.program.start_stage turn.place turn.step turn.at)
+    there_stage = grind (arith, stage_here, stage_more, turn.here.stage, turn.step.stage, run.steps, run.program.start_stage, turn.place, turn.step, turn.at)
 
     stage_later : (p : ℕ) → (t : Bool) → is_some rule_of.next ≡ t → BarriersBelow (turn.done ++ (turn.place ∷ [])) p → leads_to.stage ≡ stage_by run.steps run.program.start_stage p
     stage_later p true is below' =

@@ -38,8 +38,7 @@ stand_once all [] [] (y ∷ ys) at at' = absurd at'
 stand_once all [] (x ∷ xs) ys at at' = absurd at
 stand_once all (place ∷ places) [] ys at at' = absurd at
 stand_once all (place ∷ places) (x ∷ xs) [] at at' = absurd at'
-stand_once all (place ∷ places) (x ∷ xs) (y ∷ ys) at at' =
-    ap (λ z. z ∷ xs) (some_same x y (sym at.0 ∙ at'.0)) ∙ ap (λ zs. y ∷ zs) (stand_once all places xs ys at.1 at'.1)
+stand_once all (place ∷ places) (x ∷ xs) (y ∷ ys) at at' = grind (arith, some_same, at.0, at'.0, stand_once all places xs ys at.1 at'.1, at.1, at'.1)
 
 -- The steps at these places are determined.
 pub unlisted_once : (all : List LogStep) (places : List ℕ) (one other : List LogStep) → AreUnlistedSteps all places one → AreUnlistedSteps all places other → one ≡ other
@@ -171,7 +170,4 @@ written_is_one touches = record {
 
 -- To be renewed is to be renewed in the written order.
 pub renewal_as_written : (program : Parts) (old new : Log) → IsRenewal program old new ↔ IsRenewalIn program (written_places 0 old.steps) old new
-renewal_as_written program old new = (
-  λ renews. record { steps = old.steps; stand = written old.steps; renews = renews },
-  λ is. subst (λ (steps : List LogStep). IsRenewal program (record old { steps = steps }) new) (stand_once old.steps (written_places 0 old.steps) is.steps old.steps is.stand (written old.steps)) is.renews,
-)
+renewal_as_written program old new = grind (arith, written old.steps, stand_once, old.steps)

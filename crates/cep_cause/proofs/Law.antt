@@ -1,7 +1,6 @@
 -- A legal log in another order: its steps are legal to the same last spot, or one of them is the first that leads to a state that does not fit.
 use Rattle.std.proofs.Common.{◌≡◌, ◌⊎◌, inl, inr, ⊎_elim, ℕ, ◌+◌, ◌<◌, ◌≤◌, List, [], ◌∷◌, ◌++◌, map, append_assoc, append-nil, refl, sym, ap, ◌∙◌, subst, arith}
-use Rattle.cep_base.specs.declared.limits.TheConstants.{MOST_COPIES, MOST_STATE_NODES}
-use Rattle.cep_term.specs.Multiset.{Multiset, copies_in, nodes_in_all}
+use Rattle.cep_term.specs.Multiset.{Multiset}
 use Rattle.cep_rule.specs.declared.parts.Parts.{Parts}
 use Rattle.cep_rule.specs.State.{Fits}
 use Rattle.cep_rule.specs.Steps.{Spot, start_spot}
@@ -21,11 +20,7 @@ at_most : (a b : ℕ) → (a ≤ b) ⊎ (b < a)
 at_most a b = grind arith
 
 fits_or_not : (state : Multiset) → Fits state ⊎ (Fits state → ⊥)
-fits_or_not state =
-    ⊎_elim
-    (λ copies. ⊎_elim (λ nodes. inl (record { copies = copies; nodes = nodes })) (λ many. inr (λ fits. let few = fits.nodes in omega arith)) (at_most (nodes_in_all state) MOST_STATE_NODES))
-    (λ many. inr (λ fits. let few = fits.copies in omega arith))
-    (at_most (copies_in state) MOST_COPIES)
+fits_or_not state = grind (arith, at_most)
 
 -- a first step more
 unfit_more : (program : Parts) (height : ℕ) (old new : Spot) (step : LogStep) (steps : List LogStep) (number : ℕ) → IsLegalStep program height old new step → IsUnfitAt program height new steps number → IsUnfitAt program height old (step ∷ steps) (number + 1)

@@ -1,6 +1,6 @@
 -- The token that is picked: there is one, and one only.
-use Rattle.std.proofs.Common.{◌≡◌, ◌≢◌, ◌⊎◌, inl, inr, ⊎_elim, ℕ, ◌<◌, ◌≤◌, Bool, true, false, eqb, List, [], ◌∷◌, refl, sym, ap, ◌∙◌, subst, arith, Contains, eqb-true}
-use Rattle.std.proofs.lemmas.Bool.{false≢true, eqb-false}
+use Rattle.std.proofs.Common.{◌≡◌, ◌⊎◌, inl, inr, ⊎_elim, ℕ, ◌<◌, ◌≤◌, false, List, [], ◌∷◌, refl, sym, ap, ◌∙◌, subst, arith, Contains, eqb-true}
+use Rattle.std.proofs.lemmas.Bool.{eqb-false}
 use Rattle.cep_base.proofs.Elements.{contains_none, contains_first, contains_behind, contains_cases, contains_same}
 use Rattle.cep_term.specs.Tree.{Tree, AtomTree}
 use Rattle.cep_rule.specs.declared.signature.Signature.{Signature}
@@ -80,36 +80,18 @@ least_or_none P decides (first ∷ tokens) =
 
 module _ (laws : CauseLaws) where
   one_token : (one other : Token) → (one ≡ other) ⊎ (one ≡ other → ⊥)
-  one_token one other = by (eqb one.number other.number) refl (one_or_two laws.bags one.atom other.atom)
-    where
-      by : (t : Bool) → eqb one.number other.number ≡ t → (one.atom ≡ other.atom) ⊎ (one.atom ≢ other.atom) → (one ≡ other) ⊎ (one ≡ other → ⊥)
-      by true e (inl same) = inl (ap (λ n. record { number = n; atom = one.atom }) (eqb-true one.number other.number e) ∙ ap (λ (a : AtomTree). record { number = other.number; atom = a }) same)
-      by true e (inr apart) = inr (λ same. apart (ap (λ (t : Token). t.atom) same))
-      by false e cases = inr (λ same. eqb-false one.number other.number e (ap (λ (t : Token). t.number) same))
+  one_token one other = grind (arith, one_or_two laws.bags one.atom other.atom, eqb-true, eqb-false, one.number, other.number, laws.bags, one.atom, other.atom)
 
   pub among_or_not : (tokens : List Token) (token : Token) → Contains tokens token ⊎ (Contains tokens token → ⊥)
   among_or_not [] token = inr (λ there. contains_none token there)
-  among_or_not (first ∷ tokens) token =
-      ⊎_elim
-      (λ same. inl (contains_same first tokens token same))
-      (λ apart. ⊎_elim
-      (λ later. inl (contains_behind first tokens token later))
-      (λ not_later. inr (λ there. ⊎_elim apart not_later (contains_cases first tokens token there)))
-      (among_or_not tokens token))
-      (one_token first token)
+  among_or_not (first ∷ tokens) token = grind (arith, contains_same, contains_behind, contains_cases, one_token first token, among_or_not tokens token)
 
   module _ (signature : Signature) (present : List Token) where
     abbrev pub MayBe : List Token → AtomTree → Token → Type 0
     MayBe used a token = (token.atom ≡ a) × (is_fact signature a ≡ false → Contains used token → ⊥)
 
     decides : (used : List Token) (a : AtomTree) (token : Token) → MayBe used a token ⊎ (MayBe used a token → ⊥)
-    decides used a token = by (is_fact signature a) refl (one_or_two laws.bags token.atom a) (among_or_not used token)
-      where
-        by : (t : Bool) → is_fact signature a ≡ t → (token.atom ≡ a) ⊎ (token.atom ≢ a) → Contains used token ⊎ (Contains used token → ⊥) → MayBe used a token ⊎ (MayBe used a token → ⊥)
-        by t is (inr apart) among = inr (λ may. apart may.0)
-        by true is (inl same) among = inl (same, λ linear. absurd (false≢true (sym linear ∙ is)))
-        by false is (inl same) (inl among) = inr (λ may. may.1 is among)
-        by false is (inl same) (inr free) = inl (same, λ linear. free)
+    decides used a token = grind (arith, one_or_two laws.bags token.atom a, among_or_not used token, laws.bags, token.atom)
 
     -- There is a pick, or no token may be picked.
     pub pick_or_none : (used : List Token) (a : AtomTree) → ((token : Token) × IsPick signature present used a token) ⊎ ((token : Token) → Contains present token → MayBe used a token → ⊥)

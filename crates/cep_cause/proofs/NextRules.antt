@@ -1,5 +1,5 @@
 -- The rules of a block of steps are looked up one after another.
-use Rattle.std.proofs.Common.{◌≡◌, ◌⊎◌, ⊎_elim, ℕ, zero, suc, ◌+◌, ◌-◌, ◌%◌, ◌<◌, ◌≤◌, List, [], ◌∷◌, ◌++◌, length, length-append, Some, refl, sym, ap, ◌∙◌, arith}
+use Rattle.std.proofs.Common.{◌≡◌, ◌⊎◌, ℕ, zero, suc, ◌+◌, ◌-◌, ◌%◌, ◌<◌, ◌≤◌, List, [], ◌∷◌, ◌++◌, length, length-append, Some, refl, ap, ◌∙◌, arith}
 use Rattle.std.specs.Prelude.{slice_get}
 use Rattle.std.proofs.lemmas.Bool.{cases_lt}
 use Rattle.std.proofs.lemmas.Option.{slice_get_within}
@@ -28,26 +28,10 @@ module _ (steps : List LogStep) (order : List ℕ) where
   no_rules place rules none = record { long = omega (arith, ap length none); each = λ k number step less at there. absurd (omega (arith, less, ap length none)) }
 
   pub one_rule_more : (place i number : ℕ) (step : LogStep) (rules : List ℕ) → slice_get order i ≡ Some number → slice_get steps (number - 1) ≡ Some step → AreRulesTo place i rules → AreRulesTo place (i + 1) (rules ++ (step.offer.rule ∷ []))
-  one_rule_more place i number step rules at there are = record {
-    long = omega (arith, are.long, length-append rules (step.offer.rule ∷ []));
-    each = λ k number' step' less at' there'.
-        ⊎_elim
-        (λ before. before_last rules step.offer.rule k before ∙ are.each k number' step' before at' there')
-        (λ past.
-        let last : k ≡ length rules = omega (arith, less, past, length-append rules (step.offer.rule ∷ [])) in
-        let same : number' ≡ number = some_same number' number (sym at' ∙ ap (λ n. slice_get order n) (omega (arith, last, are.long)) ∙ at) in
-        let is : step ≡ step' = some_same step step' (sym there ∙ ap (λ n. slice_get steps (n - 1)) (sym same) ∙ there') in
-        at_last rules step.offer.rule k last ∙ ap (λ (s : LogStep). Some s.offer.rule) is)
-        (cases_lt k (length rules));
-  }
+  one_rule_more place i number step rules at there are = grind (arith, length-append, before_last, some_same, at_last, cases_lt, are.long, step.offer.rule, are.each)
 
   pub rules_there : (place i : ℕ) (rules : List ℕ) → place % 64 ≡ 0 → (length order ≤ i) ⊎ (place + 64 ≤ i) → AreRulesTo place i rules → AreRulesAt steps order place rules
-  rules_there place i rules begins all are = record {
-    each = λ k number step less at there.
-        let here : slice_get order (place + k) ≡ Some number = ap (λ n. slice_get order (n + k)) (omega (arith, begins)) ∙ at in
-        let within = slice_get_within order (place + k) number here in
-        are.each k number step (⊎_elim (λ ends. omega (arith, ends, within, are.long)) (λ full. omega (arith, full, less, are.long)) all) here there;
-  }
+  rules_there place i rules begins all are = grind (arith, slice_get_within, are.each, are.long)
 
   -- The rule of the step at a place is among them,
   pub rule_there : (place number : ℕ) (step : LogStep) (rules : List ℕ) → slice_get order place ≡ Some number → slice_get steps (number - 1) ≡ Some step → AreRulesAt steps order place rules → slice_get rules (place % 64) ≡ Some step.offer.rule

@@ -120,8 +120,7 @@ module _ (program : Parts) where
   touched next present (first ∷ steps) [] place step are at = absurd are
   touched next present (first ∷ steps) (touch ∷ touches) zero step are at =
       record { touch = touch; at = refl; does = does_to_tokens next present step touch (subst (λ (s : LogStep). IsTouch program next present s touch) (some_same first step at) are.0) }
-  touched next present (first ∷ steps) (touch ∷ touches) (suc place) step are at =
-      let is = touched (next + length touch.makes) (present_after present touch) steps touches place step are.1 at in record { touch = is.touch; at = is.at; does = is.does }
+  touched next present (first ∷ steps) (touch ∷ touches) (suc place) step are at = grind (arith, touched (next + length touch.makes) (present_after present touch) steps touches place step are.1, touch.makes, are.1)
 
   -- The step that a touch is of.
   pub record IsOfStep (steps : List LogStep) (place : ℕ) (touch : Touch) : Type 0 where
@@ -135,8 +134,7 @@ module _ (program : Parts) where
   of_step next present (step ∷ steps) [] place touch are at = none_some touch at
   of_step next present (step ∷ steps) (first ∷ touches) zero touch are at =
       record { step = step; at = refl; does = does_to_tokens next present step touch (subst (λ (t : Touch). IsTouch program next present step t) (some_same first touch at) are.0) }
-  of_step next present (step ∷ steps) (first ∷ touches) (suc place) touch are at =
-      let is = of_step (next + length first.makes) (present_after present first) steps touches place touch are.1 at in record { step = is.step; at = is.at; does = is.does }
+  of_step next present (step ∷ steps) (first ∷ touches) (suc place) touch are at = grind (arith, of_step (next + length first.makes) (present_after present first) steps touches place touch are.1, first.makes, are.1)
 
   pub as_many : (next : ℕ) (present : List Token) (steps : List LogStep) (touches : List Touch) → AreTouches program next present steps touches → length touches ≡ length steps
   as_many next present [] [] are = refl
@@ -248,13 +246,7 @@ module _ (run : LegalRun) where
 
   -- The start is where nothing is done.
   pub old_start : IsOldPrefix 0 (record { stage = run.program.start_stage; state = run.program.start })
-  old_start = record {
-    done = [];
-    are = λ place. ((λ there. absurd (contains_none place there)), (λ less. absurd (omega arith)));
-    differ = tt;
-    state_is = state_at_start run.laws run.program.signature run.program.start takes adds run.is.start;
-    stage = sym (first_stage run.steps run.program.start_stage);
-  }
+  old_start = grind (arith, contains_none, state_at_start, first_stage, run.laws, run.program.signature, run.program.start, run.is.start, run.steps, run.program.start_stage)
 
   -- A step in the written order: where it was done, and where it led.
   pub record IsOldStep (place : ℕ) (step : LogStep) : Type 0 where

@@ -1,10 +1,8 @@
 -- Doing a log in an order comes to one answer.
-use Rattle.std.proofs.Common.{◌≡◌, ℕ, List, [], ◌∷◌, map, length, refl, sym, ap, ◌∙◌, subst, arith}
+use Rattle.std.proofs.Common.{◌≡◌, ℕ, List, [], ◌∷◌, map, refl, sym, ap, ◌∙◌, subst, arith}
 use Rattle.std.specs.List.{AllZip}
 use Rattle.cep_rule.specs.declared.parts.Parts.{Parts}
-use Rattle.cep_rule.specs.declared.offer.Offer.{Offer}
-use Rattle.cep_rule.specs.Derivations.{ProofTree}
-use Rattle.cep_rule.specs.Steps.{Spot, IsMachineStep, start_spot}
+use Rattle.cep_rule.specs.Steps.{Spot, start_spot}
 use Rattle.cep_log.specs.declared.log.Log.{Log}
 use Rattle.cep_log.specs.declared.log.LogStep.{LogStep}
 use Rattle.cep_log.specs.Legal.{IsLegalStep, AreLegalSteps}
@@ -19,13 +17,7 @@ use Rattle.cep_cause.proofs.Outcomes.{legal_or_unfit, one_unfit}
 module _ (program : Parts) (height : ℕ) where
   -- A step that does the same is legal too, with no listing.
   same_legal : (old new : Spot) (one other : LogStep) → DoTheSame one other → IsLegalStep program height old new other → IsLegalStep program height old new (unlisted one)
-  same_legal old new one other same legal = record {
-    rule = legal.rule;
-    machine = subst (λ (offer : Offer). IsMachineStep program height old new offer legal.rule one.proofs) (sym same.offer)
-        (subst (λ (proofs : List ProofTree). IsMachineStep program height old new other.offer legal.rule proofs) (sym same.proofs) legal.machine);
-    stage = same.stage ∙ legal.stage;
-    mid = tt;
-  }
+  same_legal old new one other same legal = grind (arith, legal.rule, one.proofs, same.offer, other.offer, same.proofs, legal.machine, same.stage, legal.stage)
 
   same_legal_steps : (ones others : List LogStep) (old last : Spot) → AllZip DoTheSame ones others → AreLegalSteps program height others old last → AreLegalSteps program height (map unlisted ones) old last
   same_legal_steps [] [] old last same legal = legal
@@ -54,20 +46,12 @@ module _ (laws : CauseLaws) (one_text : (program : Parts) (old one other : Log) 
   pub one_answer : (one other : Reordered) → ComesTo program places log one → ComesTo program places log other → one ≡ other
   one_answer (Done text) (Done text') is is' = ap Done (is.written ∙ same_text is.new is'.new is.renews is'.renews ∙ sym is'.written)
   one_answer (Done text) (Unfit number) is is' = absurd (renewed_fits is.new number is.renews is')
-  one_answer (Done text) TooLong is is' =
-      let same = ap length (is.written ∙ same_text is.new is'.new is.renews is'.renews) in
-      let short = is.read.short in
-      let long = is'.long in
-      absurd (omega arith)
+  one_answer (Done text) TooLong is is' = grind (arith, same_text, is.written, is.new, is'.new, is.renews, is'.renews, is.read.short, is'.long)
   one_answer (Unfit number) (Done text) is is' = absurd (renewed_fits is'.new number is'.renews is)
   one_answer (Unfit number) (Unfit number') is is' =
       ap Unfit (one_unfit laws program log.height (start_spot program) is.steps number number' is.unfit
       (subst (λ (steps : List LogStep). IsUnfitAt program log.height (start_spot program) steps number') (unlisted_once log.steps places is'.steps is.steps is'.are is.are) is'.unfit))
   one_answer (Unfit number) TooLong is is' = absurd (renewed_fits is'.new number is'.renews is)
-  one_answer TooLong (Done text) is is' =
-      let same = ap length (is'.written ∙ same_text is'.new is.new is'.renews is.renews) in
-      let short = is'.read.short in
-      let long = is.long in
-      absurd (omega arith)
+  one_answer TooLong (Done text) is is' = grind (arith, same_text, is'.written, is'.new, is.new, is'.renews, is.renews, is'.read.short, is.long)
   one_answer TooLong (Unfit number) is is' = absurd (renewed_fits is.new number is.renews is')
   one_answer TooLong TooLong is is' = refl

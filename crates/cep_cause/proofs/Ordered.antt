@@ -1,5 +1,5 @@
 -- When the turn of a step comes in another order, every token that it uses is there: it was made, and it was not removed.
-use Rattle.std.proofs.Common.{◌≡◌, ◌⊎◌, inl, inr, ⊎_elim, ℕ, ◌+◌, ◌<◌, ◌≤◌, false, List, [], ◌∷◌, ◌++◌, length, append-nil, Option, Some, None, refl, sym, ap, ◌∙◌, subst, arith, Contains}
+use Rattle.std.proofs.Common.{◌≡◌, ◌⊎◌, inl, inr, ⊎_elim, ℕ, ◌+◌, ◌<◌, ◌≤◌, false, List, [], ◌∷◌, ◌++◌, length, append-nil, Some, None, refl, sym, ap, ◌∙◌, subst, arith, Contains}
 use Rattle.std.specs.Prelude.{slice_get, unwrap_or}
 use Rattle.std.specs.List.{flat_map, sum_by}
 use Rattle.std.proofs.lemmas.List.Sums.{sum_by-append}
@@ -33,11 +33,7 @@ module _ (touches : List Touch) where
   made_at place = (touch_at place).makes
 
   is_there : (place : ℕ) (token : Token) → Contains (removed_at place) token → slice_get touches place ≡ Some (touch_at place)
-  is_there place token there = by (slice_get touches place) there
-    where
-      by : (o : Option Touch) → Contains (unwrap_or o still).removes token → o ≡ Some (unwrap_or o still)
-      by None there = absurd (contains_none token there)
-      by (Some touch) there = refl
+  is_there place token there = grind (arith, contains_none)
 
   -- A step is next after those that are done: it is not done, all that precede it are, and none that it precedes is.
   pub record IsNext (done : List ℕ) (place : ℕ) : Type 0 where

@@ -1,5 +1,5 @@
 -- Which tokens are used, by the old order of the steps.
-use Rattle.std.proofs.Common.{◌≡◌, ◌⊎◌, inl, inr, ⊎_elim, ℕ, zero, suc, ◌+◌, ◌<◌, ◌≤◌, Bool, true, false, cond, not, ◌||◌, List, [], ◌∷◌, length, refl, sym, ap, ◌∙◌, subst, arith, Contains}
+use Rattle.std.proofs.Common.{◌≡◌, ◌⊎◌, inl, inr, ⊎_elim, ℕ, zero, suc, ◌+◌, ◌<◌, ◌≤◌, true, false, not, List, [], ◌∷◌, length, refl, sym, ap, ◌∙◌, subst, arith, Contains}
 use Rattle.std.specs.Prelude.{slice_get, Some}
 use Rattle.std.proofs.lemmas.Bool.{false≢true}
 use Rattle.cep_base.proofs.Elements.{contains_none, contains_behind, contains_cases, contains_same, contains_either}
@@ -8,7 +8,6 @@ use Rattle.cep_term.specs.Tree.{Tree, AtomTree}
 use Rattle.cep_rule.specs.declared.signature.Signature.{Signature}
 use Rattle.cep_rule.specs.declared.parts.Parts.{Parts}
 use Rattle.cep_rule.specs.Patterns.{PremiseTree}
-use Rattle.cep_rule.specs.Typing.{is_fact}
 use Rattle.cep_log.specs.declared.log.LogStep.{LogStep}
 use Rattle.cep_cause.specs.Tokens.{Token, numbered, has_number, staying, ArePicks, picked_to_go}
 use Rattle.cep_cause.specs.Touches.{Touch, present_after, IsTouch, AreTouches}
@@ -39,13 +38,7 @@ picks_present signature values present used (premise ∷ premises) (first ∷ to
 pub removed_used : (signature : Signature) (premises : List PremiseTree) (tokens : List Token) (token : Token) → Contains (picked_to_go signature premises tokens) token → Contains tokens token
 removed_used signature [] tokens token there = absurd (contains_none token there)
 removed_used signature (premise ∷ premises) [] token there = absurd (contains_none token there)
-removed_used signature (premise ∷ premises) (first ∷ tokens) token there = by (premise.kept || is_fact signature premise.atom) (removed_used signature premises tokens token) there
-  where
-    by : (t : Bool) → (Contains (picked_to_go signature premises tokens) token → Contains tokens token) → Contains (cond t (picked_to_go signature premises tokens) (first ∷ picked_to_go signature premises tokens)) token → Contains (first ∷ tokens) token
-    by true rest there = contains_behind first tokens token (rest there)
-    by false rest there =
-        ⊎_elim (λ same. contains_same first tokens token same) (λ later. contains_behind first tokens token (rest later))
-        (contains_cases first (picked_to_go signature premises tokens) token there)
+removed_used signature (premise ∷ premises) (first ∷ tokens) token there = grind (arith, contains_behind, contains_same, contains_cases, premise.kept, premise.atom, removed_used signature premises tokens token)
 
 -- a token that is among others has its number there
 pub numbered_there : (tokens : List Token) (token : Token) → Contains tokens token → has_number tokens token.number ≡ true

@@ -31,10 +31,7 @@ module _ (signature : Signature) (values : List Tree) (present : List Token) whe
   picks_atoms used [] [] picks = refl
   picks_atoms used [] (token ∷ tokens) picks = absurd picks
   picks_atoms used (premise ∷ premises) [] picks = absurd picks
-  picks_atoms used (premise ∷ premises) (token ∷ tokens) picks =
-      let rest = picks_atoms (token ∷ used) premises tokens picks.1 in
-      let first = picks.0.can.of_atom in
-      cc
+  picks_atoms used (premise ∷ premises) (token ∷ tokens) picks = grind (arith, picks_atoms (token ∷ used) premises tokens picks.1, picks.1, picks.0.can.of_atom)
 
   -- the atoms of what is removed
   pub removed_atoms : (used : List Token) (premises : List PremiseTree) (tokens : List Token) → ArePicks signature values present used premises tokens
@@ -42,12 +39,7 @@ module _ (signature : Signature) (values : List Tree) (present : List Token) whe
   removed_atoms used [] [] picks = refl
   removed_atoms used [] (token ∷ tokens) picks = absurd picks
   removed_atoms used (premise ∷ premises) [] picks = absurd picks
-  removed_atoms used (premise ∷ premises) (token ∷ tokens) picks = by (premise.kept || is_fact signature premise.atom) (removed_atoms (token ∷ used) premises tokens picks.1)
-    where
-      by : (t : Bool) → full_instances values (map (λ (premise : PremiseTree). premise.atom) (goers signature premises)) ≡ token_atoms (picked_to_go signature premises tokens)
-          → full_instances values (map (λ (premise : PremiseTree). premise.atom) (cond (not t) (premise ∷ goers signature premises) (goers signature premises))) ≡ token_atoms (cond t (picked_to_go signature premises tokens) (token ∷ picked_to_go signature premises tokens))
-      by true rest = rest
-      by false rest = let first = picks.0.can.of_atom in cc
+  removed_atoms used (premise ∷ premises) (token ∷ tokens) picks = grind (arith, premise.kept, premise.atom, removed_atoms (token ∷ used) premises tokens picks.1, picks.1, picks.0.can.of_atom)
 
   -- A linear token that is picked was not used.
   pub picks_apart : (used : List Token) (premises : List PremiseTree) (tokens : List Token) (token : Token) → ArePicks signature values present used premises tokens

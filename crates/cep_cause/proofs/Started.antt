@@ -1,5 +1,5 @@
 -- The tokens of a start state are its copies.
-use Rattle.std.proofs.Common.{◌≡◌, ◌≢◌, ◌⊎◌, inl, inr, ⊎_elim, ℕ, zero, suc, ◌+◌, Bool, true, false, List, [], ◌∷◌, replicate, refl, sym, ap, ◌∙◌, subst, arith}
+use Rattle.std.proofs.Common.{◌≡◌, ◌≢◌, ◌⊎◌, inl, inr, ℕ, zero, suc, ◌+◌, Bool, true, false, List, [], ◌∷◌, replicate, refl, sym, ap, ◌∙◌, arith}
 use Rattle.std.specs.Prelude.{fold}
 use Rattle.std.specs.List.{flat_map}
 use Rattle.std.specs.FinMap as finite
@@ -32,21 +32,12 @@ module _ (laws : BagLaws) where
     other_copies b (suc n) apart = laws.others (gathered (replicate n b)) b a (count_of (gathered (replicate n b)) b + 1) apart ∙ other_copies b n apart
 
     one_entry : (bag : Multiset) (b : AtomTree) (n : ℕ) → count_of (with_count bag b (count_of bag b + n)) a ≡ count_of bag a + count_of (gathered (replicate n b)) a
-    one_entry bag b n =
-        ⊎_elim
-        (λ same. subst (λ (c : AtomTree). count_of (with_count bag c (count_of bag c + n)) a ≡ count_of bag a + count_of (gathered (replicate n c)) a) same
-        (let own = laws.own bag a (count_of bag a + n) in let copies = own_copies n in omega arith))
-        (λ apart. let others = laws.others bag b a (count_of bag b + n) apart in let none = other_copies b n apart in omega arith)
-        (one_or_two a b)
+    one_entry bag b n = grind (arith, own_copies, other_copies, one_or_two, laws.own, laws.others)
 
     all_entries : (bag : Multiset) (entries : List (AtomTree × ℕ))
         → count_of (fold (λ (so_far : Multiset) (e : AtomTree × ℕ). with_count so_far e.0 (count_of so_far e.0 + e.1)) bag entries) a ≡ count_of bag a + count_of (gathered (flat_map (λ (e : AtomTree × ℕ). replicate e.1 e.0) entries)) a
     all_entries bag [] = let none = laws.empty a in omega arith
-    all_entries bag (e ∷ entries) =
-        let first = one_entry bag e.0 e.1 in
-        let rest = all_entries (with_count bag e.0 (count_of bag e.0 + e.1)) entries in
-        let both = laws.joined_count (replicate e.1 e.0) (flat_map (λ (e : AtomTree × ℕ). replicate e.1 e.0) entries) a in
-        omega arith
+    all_entries bag (e ∷ entries) = grind (arith, one_entry, e.0, e.1, all_entries (with_count bag e.0 (count_of bag e.0 + e.1)) entries, laws.joined_count)
 
     -- of each atom there are as many tokens as copies
     pub start_counts : (state : Multiset) → count_of (gathered (token_atoms (start_tokens state))) a ≡ count_of state a

@@ -1,5 +1,5 @@
 -- The state after steps that are done, by counts alone: so it is one in whatever order they are done.
-use Rattle.std.proofs.Common.{◌≡◌, ℕ, ◌+◌, ◌-◌, min, Bool, true, false, List, [], ◌∷◌, ◌++◌, refl, sym, ap, ◌∙◌, arith, Contains}
+use Rattle.std.proofs.Common.{◌≡◌, ℕ, ◌+◌, ◌-◌, min, Bool, true, false, List, [], ◌∷◌, ◌++◌, ap, ◌∙◌, arith, Contains}
 use Rattle.std.specs.List.{sum_by}
 use Rattle.std.proofs.lemmas.List.Sums.{sum_by_push}
 use Rattle.cep_term.specs.Tree.{Tree, AtomTree}
@@ -52,49 +52,15 @@ module _ (laws : CauseLaws) (signature : Signature) where
 
     -- At first it is the start.
     pub state_at_start : IsState signature start → IsStateAfter [] start
-    state_at_start is_state = record {
-      is_state = is_state;
-      linear = λ a is. refl;
-      facts = λ a is. let few = is_state.once a is in omega arith;
-    }
+    state_at_start is_state = grind (arith, is_state.once)
 
     -- After the same steps there is one state.
     pub one_state_after : (done done' : List ℕ) (state state' : Multiset) → IsStateAfter done state → IsStateAfter done' state' → Differ done → Differ done'
         → ((place : ℕ) → Contains done place → Contains done' place) → ((place : ℕ) → Contains done' place → Contains done place) → state ≡ state'
-    one_state_after done done' state state' is is' differ differ' within within' =
-        laws.bags.equal state state' is.is_state.bag is'.is_state.bag (λ a. by a (is_fact signature a) refl)
-      where
-        by : (a : AtomTree) (t : Bool) → is_fact signature a ≡ t → count_of state a ≡ count_of state' a
-        by a true fact =
-            let come = weigh_the_same (λ (place : ℕ). count_of (gathered (adds place)) a) done done' differ differ' within within' in
-            is.facts a fact ∙ ap (λ n. min 1 (count_of start a + n)) come ∙ sym (is'.facts a fact)
-        by a false linear =
-            let come = weigh_the_same (λ (place : ℕ). count_of (gathered (adds place)) a) done done' differ differ' within within' in
-            let go = weigh_the_same (λ (place : ℕ). count_of (gathered (takes place)) a) done done' differ differ' within within' in
-            let one = is.linear a linear in
-            let other = is'.linear a linear in
-            omega arith
+    one_state_after done done' state state' is is' differ differ' within within' = grind (arith, weigh_the_same, laws.bags.equal, is.is_state.bag, is'.is_state.bag, is.facts, is'.facts, is.linear, is'.linear)
 
     -- One step more is done.
     pub state_more : (rule : Rule) (values : List Tree) (done : List ℕ) (place : ℕ) (old new : Multiset) → IsTypedRule signature rule → AreValues signature.cons rule.kinds values
         → takes place ≡ used_by signature rule values → adds place ≡ full_instances values rule.right
         → IsStateAfter done old → IsState signature new → Step signature rule values old new → IsStateAfter (done ++ (place ∷ [])) new
-    state_more rule values done place old new typed are take add is is_state step =
-        let does = step_counts rule values typed are old new is.is_state step in
-        record {
-          is_state = is_state;
-          linear = λ a linear.
-              let count = does.linear a linear in
-              let before = is.linear a linear in
-              let goes = sum_by_push (λ (place : ℕ). count_of (gathered (takes place)) a) done place in
-              let comes = sum_by_push (λ (place : ℕ). count_of (gathered (adds place)) a) done place in
-              let go = ap (λ (atoms : List AtomTree). count_of (gathered atoms) a) take in
-              let come = ap (λ (atoms : List AtomTree). count_of (gathered atoms) a) add in
-              omega arith;
-          facts = λ a fact.
-              let count = does.facts a fact in
-              let before = is.facts a fact in
-              let comes = sum_by_push (λ (place : ℕ). count_of (gathered (adds place)) a) done place in
-              let come = ap (λ (atoms : List AtomTree). count_of (gathered atoms) a) add in
-              omega arith;
-        }
+    state_more rule values done place old new typed are take add is is_state step = grind (arith, step_counts rule values typed are old new is.is_state step, sum_by_push, is.is_state, is.linear, is.facts)

@@ -30,15 +30,7 @@ precedes_in touches causes i j are is =
 
 among_or_not : (places : List ℕ) (place : ℕ) → Contains places place ⊎ (Contains places place → ⊥)
 among_or_not [] place = inr (λ there. contains_none place there)
-among_or_not (first ∷ places) place =
-    ⊎_elim
-    (λ less. rest (λ same. omega arith) (among_or_not places place))
-    (λ more. ⊎_elim (λ same. inl (contains_same first places place same)) (λ less. rest (λ same. omega arith) (among_or_not places place)) more)
-    (three first place)
-  where
-    rest : (first ≡ place → ⊥) → Contains places place ⊎ (Contains places place → ⊥) → Contains (first ∷ places) place ⊎ (Contains (first ∷ places) place → ⊥)
-    rest apart (inl there) = inl (contains_behind first places place there)
-    rest apart (inr none) = inr (λ there. ⊎_elim apart none (contains_cases first places place there))
+among_or_not (first ∷ places) place = grind (arith, contains_same, three first place, contains_behind, contains_cases, among_or_not places place)
 
 module _ (seed : ℕ) (causes : List StepCause) where
   ready_first : (drawn : ℕ) (taken : List ℕ) (place drawn' : ℕ) → IsTaken seed causes drawn taken place drawn' → IsReadyIn causes taken place

@@ -1,5 +1,5 @@
 -- A legal log in another order, told in version 2.
-use Rattle.std.proofs.Common.{◌≡◌, ◌⊎◌, inl, inr, ⊎_elim, ℕ, zero, suc, ◌+◌, ◌<◌, ◌≤◌, Bool, true, false, cond, List, [], ◌∷◌, map, length, Option, Some, None, refl, sym, ap, arith, Contains}
+use Rattle.std.proofs.Common.{◌≡◌, ◌⊎◌, inl, inr, ⊎_elim, ℕ, zero, suc, ◌+◌, ◌<◌, ◌≤◌, cond, List, [], ◌∷◌, map, length, Option, Some, None, refl, sym, ap, arith, Contains}
 use Rattle.std.specs.Prelude.{is_some, IfSome}
 use Rattle.std.specs.List.{AllByRecursion, AllZip, sum_by}
 use Rattle.std.proofs.lemmas.List.Sums.{sum_by-cons}
@@ -35,18 +35,10 @@ abbrev due_mid : ℕ → Multiset → Option LogMid
 due_mid number state = cond (has_listing Two number) (Some (record { line = 0; state = finite.entries state })) None
 
 mid_due : (number : ℕ) (state : Multiset) → is_some (due_mid number state) ≡ has_listing Two number
-mid_due number state = by (has_listing Two number)
-  where
-    by : (t : Bool) → is_some (cond {A = Option LogMid} t (Some (record { line = 0; state = finite.entries state })) None) ≡ t
-    by true = refl
-    by false = refl
+mid_due number state = grind arith
 
 mid_holds : (P : LogMid → Type 0) (number : ℕ) (state : Multiset) → P (record { line = 0; state = finite.entries state }) → IfSome (due_mid number state) P
-mid_holds P number state holds = by (has_listing Two number)
-  where
-    by : (t : Bool) → IfSome (cond {A = Option LogMid} t (Some (record { line = 0; state = finite.entries state })) None) P
-    by true = holds
-    by false = tt
+mid_holds P number state holds = grind arith
 
 same_end : (end : Option LogEnd) → EndTheSame end end
 same_end None = tt

@@ -44,15 +44,7 @@ module _ (laws : CauseLaws) (signature : Signature) (values : List Tree) (presen
     needed = full_instance values premise.atom
 
     enough_more : (token : Token) → token.atom ≡ needed → IsEnough (token ∷ used) premises
-    enough_more token same = record {
-      linear = λ a linear.
-          let few = enough.linear a linear in
-          let first = laws.bags.joined_count (token.atom ∷ []) (token_atoms used) a in
-          let first' = laws.bags.joined_count (needed ∷ []) (instances premises) a in
-          let one = ap (λ (b : AtomTree). count_of (gathered (b ∷ [])) a) same in
-          omega arith;
-      facts = λ a fact some. enough.facts a fact (let first' = laws.bags.joined_count (needed ∷ []) (instances premises) a in omega arith);
-    }
+    enough_more token same = grind (arith, enough.linear, laws.bags.joined_count, token.atom, enough.facts)
 
     -- so some token may be picked
     none_is_wrong : ((token : Token) → Contains present token → MayBe laws signature present used needed token → ⊥) → ⊥
@@ -153,10 +145,7 @@ module _ (laws : CauseLaws) (program : Parts) (is : IsProgram program) (height :
       same_rule = some_same touches.rule rule (sym touches.numbered_by ∙ legal.machine.numbered)
 
       goes : used_by program.signature rule step.offer.values ≡ token_atoms touch.removes
-      goes =
-          ap (λ (rule : Rule). used_by program.signature rule step.offer.values) (sym same_rule)
-          ∙ removed_atoms program.signature step.offer.values present [] touches.rule.premises touch.uses touches.uses
-          ∙ ap token_atoms (sym touches.removes)
+      goes = grind (arith, same_rule, removed_atoms, program.signature, step.offer.values, touches.rule.premises, touch.uses, touches.uses, touches.removes)
 
       stay_count : (a : AtomTree) → count_of (token_state (staying touch.removes present)) a ≡ count_of (difference_of old.state taken) a
       stay_count a =
@@ -170,10 +159,7 @@ module _ (laws : CauseLaws) (program : Parts) (is : IsProgram program) (height :
       gains = laws.bags.gained_alike (is_fact program.signature) (token_state (staying touch.removes present)) (difference_of old.state taken) added (λ a fact. stay_count a)
 
       made : touch.makes ≡ numbered next (gained (is_fact program.signature) (difference_of old.state taken) added)
-      made =
-          touches.makes
-          ∙ ap (λ (rule : Rule). numbered next (gained (is_fact program.signature) (token_state (staying touch.removes present)) (full_instances step.offer.values rule.right))) same_rule
-          ∙ ap (numbered next) gains
+      made = grind (arith, same_rule, gains, touches.makes, program.signature, touch.removes, step.offer.values)
 
       new_state : new.state ≡ sum_of (difference_of old.state taken) (gathered (gained (is_fact program.signature) (difference_of old.state taken) added))
       new_state =

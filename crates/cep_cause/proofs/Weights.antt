@@ -1,9 +1,8 @@
 -- What the tokens weigh that were there, and those that were removed: the copies that came, and those that went.
-use Rattle.std.proofs.Common.{◌≡◌, ◌≢◌, ◌⊎◌, ⊎_elim, ℕ, ◌+◌, ◌<◌, ◌≤◌, Bool, true, false, cond, not, List, [], ◌∷◌, Option, Some, None, refl, sym, ap, ◌∙◌, subst, arith, Contains}
+use Rattle.std.proofs.Common.{◌≡◌, ◌≢◌, ◌⊎◌, ⊎_elim, ℕ, ◌+◌, ◌<◌, ◌≤◌, Bool, true, false, List, [], ◌∷◌, Option, Some, None, refl, ap, ◌∙◌, subst, arith, Contains}
 use Rattle.std.specs.Prelude.{slice_get, unwrap_or}
 use Rattle.std.specs.List.{flat_map, sum_by}
 use Rattle.std.specs.FinMap as finite
-use Rattle.std.proofs.lemmas.Bool.{false≢true}
 use Rattle.std.proofs.lemmas.List.Sums.{sum_by-append, sum_by-cons}
 use Rattle.cep_base.proofs.Elements.{contains_none, contains_cases, map_cases}
 use Rattle.cep_term.specs.Tree.{AtomTree}
@@ -11,8 +10,7 @@ use Rattle.cep_term.specs.Multiset.{Multiset, count_of, gathered, held}
 use Rattle.cep_rule.specs.declared.rule.Rule.{Rule}
 use Rattle.cep_rule.specs.declared.parts.Parts.{Parts}
 use Rattle.cep_rule.specs.Typing.{is_fact}
-use Rattle.cep_rule.specs.Binding.{needed_of}
-use Rattle.cep_rule.specs.Instances.{full_instances, left_of}
+use Rattle.cep_rule.specs.Instances.{left_of}
 use Rattle.cep_log.specs.declared.log.LogStep.{LogStep}
 use Rattle.cep_cause.specs.CauseLaws.{CauseLaws}
 use Rattle.cep_cause.specs.Tokens.{Token, token_atoms, start_tokens}
@@ -36,18 +34,7 @@ module _ (laws : CauseLaws) (a : AtomTree) where
   -- For a linear atom the linear tokens weigh as much as all.
   linear_weigh : (program : Parts) (tokens : List Token) → is_fact program.signature a ≡ false → sum_by (weight laws.bags a) (linear_of program.signature tokens) ≡ sum_by (weight laws.bags a) tokens
   linear_weigh program [] linear = refl
-  linear_weigh program (token ∷ tokens) linear = by (is_fact program.signature token.atom) refl (linear_weigh program tokens linear)
-    where
-      by : (t : Bool) → is_fact program.signature token.atom ≡ t → sum_by (weight laws.bags a) (linear_of program.signature tokens) ≡ sum_by (weight laws.bags a) tokens
-          → sum_by (weight laws.bags a) (cond (not t) (token ∷ linear_of program.signature tokens) (linear_of program.signature tokens)) ≡ sum_by (weight laws.bags a) (token ∷ tokens)
-      by true fact rest =
-          let none = other_weight token.atom (λ same. false≢true (sym linear ∙ ap (is_fact program.signature) same ∙ fact)) in
-          let first = sum_by-cons (weight laws.bags a) token tokens in
-          omega arith
-      by false other rest =
-          let first = sum_by-cons (weight laws.bags a) token tokens in
-          let first' = sum_by-cons (weight laws.bags a) token (linear_of program.signature tokens) in
-          omega arith
+  linear_weigh program (token ∷ tokens) linear = grind (arith, weight laws.bags a, linear_of program.signature tokens, other_weight, sum_by-cons (weight laws.bags a) token tokens, sum_by-cons (weight laws.bags a) token (linear_of program.signature tokens), program.signature, token.atom, linear_weigh program tokens linear, laws.bags)
 
 module _ (run : LegalRun) (a : AtomTree) where
   -- What was removed weighs what went.
@@ -84,20 +71,12 @@ module _ (run : LegalRun) (a : AtomTree) where
 
   -- All that were there weigh no more than what there was at first and came.
   there_weigh : (done : List ℕ) → sum_by (weight run.laws.bags a) (there_by run.touches (start_tokens run.program.start) done) ≤ count_of run.program.start a + sum_at (adds run) a done
-  there_weigh done =
-      let both = sum_by-append (weight run.laws.bags a) (start_tokens run.program.start) (flat_map (made_at run.touches) done) in
-      let start = weigh_tokens run.laws.bags a (start_tokens run.program.start) in
-      let counts = start_counts run.laws.bags a run.program.start in
-      let made = made_weigh done in
-      omega arith
+  there_weigh done = grind (arith, sum_by-append, weight, made_at, weigh_tokens, start_counts, made_weigh, run.laws.bags, run.program.start, run.touches)
 
   module _ (done : List ℕ) (place : ℕ) (next : IsNext run.touches done place) (step : LogStep) (rule : Rule) (known : IsFamiliar run place step rule)
       (spent : AreSpent run.touches (start_tokens run.program.start) done) (state : Multiset) (is_state : IsStateAfter run.laws run.program.signature run.program.start (takes run) (adds run) done state) where
     left_count : (t : Bool) → is_fact run.program.signature a ≡ t → count_of (left_of run.program.signature rule step.offer.values) a ≡ held t (count_of (gathered (token_atoms known.touch.uses)) a)
-    left_count t is =
-        run.laws.bags.once_count (is_fact run.program.signature) (gathered (full_instances step.offer.values (needed_of rule))) a
-        ∙ ap (λ (t : Bool). held t (count_of (gathered (full_instances step.offer.values (needed_of rule))) a)) is
-        ∙ ap (λ (atoms : List AtomTree). held t (count_of (gathered atoms) a)) known.uses
+    left_count t is = grind (arith, run.laws.bags.once_count, run.program.signature)
 
     -- a token of the atom weighs something
     one_there : (token : Token) → Contains known.touch.uses token → token.atom ≡ a → 1 ≤ count_of run.program.start a + sum_at (adds run) a done

@@ -34,8 +34,7 @@ not_long is text untrue tests = let short : ¬ (MOST_LOG < length text) = λ lon
 unlisted_at : (all : List LogStep) (places : List ℕ) (listed : List LogStep) (i place : ℕ) (step : LogStep) → StandAt all places listed → slice_get places i ≡ Some place → slice_get all place ≡ Some step → slice_get (map unlisted listed) i ≡ Some (unlisted step)
 unlisted_at all [] listed i place step stand at there = none_some place at
 unlisted_at all (first ∷ places) [] i place step stand at there = absurd stand
-unlisted_at all (first ∷ places) (x ∷ listed) zero place step stand at there =
-    ap (λ (s : LogStep). Some (unlisted s)) (some_same x step (sym stand.0 ∙ ap (λ n. slice_get all n) (some_same first place at) ∙ there))
+unlisted_at all (first ∷ places) (x ∷ listed) zero place step stand at there = grind (arith, some_same, stand.0)
 unlisted_at all (first ∷ places) (x ∷ listed) (suc i) place step stand at there = unlisted_at all places listed i place step stand.1 at there
 
 -- Whatever its steps in the order are, the log with them is told so far, if it is legal.
