@@ -8,8 +8,8 @@ ghost use Rattle.cep_play.specs.Outcome.{report_of};
 use crate::report::{Report, Status};
 use cep_base::Text;
 use cep_cause::Reordered;
-use cep_log::Log;
 use cep_graph::reorder;
+use cep_log::Log;
 use cep_rule::Program;
 use std::alloc::{AllocError, Global};
 

@@ -4,9 +4,9 @@ ghost use Rattle.cep_base.specs.Files.{Files};
 ghost use Rattle.cep_play.specs.Outside.{Due};
 ghost use Rattle.cep_play.specs.Due.{IsDue};
 
+use cep_graph::laws::one_reordering_by_a_seed;
 use cep_ground::laws::clean_parts_are_a_program;
 use cep_log::laws::one_log;
-use cep_graph::laws::one_reordering_by_a_seed;
 use cep_weigh::laws::one_reading;
 use cep_words::laws::one_request;
 
