@@ -16,7 +16,7 @@ use Rattle.cep_cause.specs.Touches.{Touch, AreTouchesOf}
 use Rattle.cep_cause.specs.Tokens.{start_tokens}
 use Rattle.cep_cause.specs.Reorderings.{Precedes, Respects, IsReordering, step_places, IsOrder, AreNumbersWithin}
 use Rattle.cep_cause.specs.Reordered.{StandAt, written_places, unlisted, AreUnlistedSteps, IsInOrder, AreLegalIn, IsRenewalIn, IsTextIn, IsTooLongIn}
-use Rattle.cep_check.specs.Renewed.{IsRenewedText, IsTooLongRenewed}
+use Rattle.cep_cause.specs.Renewed.{IsRenewedText, IsTooLongRenewed}
 use Rattle.cep_cause.proofs.OldRun.{as_many}
 use Rattle.cep_cause.proofs.Told.{stand_all, stand_long, not_longer}
 

@@ -20,3 +20,7 @@ pub mod Walked
 pub mod Taken
 pub mod Writing
 pub mod NextRules
+pub mod RenewedBytes
+pub mod RenewedSteps
+pub mod RenewedLogs
+pub mod WrittenOrder

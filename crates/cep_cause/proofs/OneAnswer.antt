@@ -19,7 +19,7 @@ module _ (program : Parts) (height : ℕ) where
   same_legal : (old new : Spot) (one other : LogStep) → DoTheSame one other → IsLegalStep program height old new other → IsLegalStep program height old new (unlisted one)
   same_legal old new one other same legal = grind (arith, legal.rule, one.proofs, same.offer, other.offer, same.proofs, legal.machine, same.stage, legal.stage)
 
-  same_legal_steps : (ones others : List LogStep) (old last : Spot) → AllZip DoTheSame ones others → AreLegalSteps program height others old last → AreLegalSteps program height (map unlisted ones) old last
+  pub same_legal_steps : (ones others : List LogStep) (old last : Spot) → AllZip DoTheSame ones others → AreLegalSteps program height others old last → AreLegalSteps program height (map unlisted ones) old last
   same_legal_steps [] [] old last same legal = legal
   same_legal_steps [] (other ∷ others) old last same legal = absurd same
   same_legal_steps (one ∷ ones) [] old last same legal = absurd same

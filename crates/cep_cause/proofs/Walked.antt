@@ -19,8 +19,8 @@ use Rattle.cep_step.specs.Spots.{IsSpotOf}
 use Rattle.cep_log.specs.declared.log.Log.{Log}
 use Rattle.cep_log.specs.declared.log.LogStep.{LogStep}
 use Rattle.cep_log.specs.Legal.{IsStepOf, IsLegalStep, AreLegalSteps, IsLegal}
-use Rattle.cep_check.specs.Renewing.{CanBePut}
-use Rattle.cep_check.specs.StepwiseLaws.{StepwiseLaws}
+use Rattle.cep_cause.specs.Renewing.{CanBePut}
+use Rattle.cep_cause.specs.StepwiseLaws.{StepwiseLaws}
 use Rattle.cep_cause.specs.CauseLaws.{CauseLaws}
 use Rattle.cep_cause.specs.Touches.{Touch, AreTouchesOf}
 use Rattle.cep_cause.specs.Reorderings.{IsOrder, step_places}

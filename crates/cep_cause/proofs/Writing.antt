@@ -14,8 +14,8 @@ use Rattle.cep_lines.specs.Lines.{header}
 use Rattle.cep_log.specs.declared.log.Log.{Log}
 use Rattle.cep_log.specs.declared.log.LogStep.{LogStep}
 use Rattle.cep_log.specs.Legal.{IsLegal}
-use Rattle.cep_check.specs.Renewing.{renewed_lines, last_lines, LeadsTo, IsRenewingAt}
-use Rattle.cep_check.specs.StepwiseLaws.{StepwiseLaws}
+use Rattle.cep_cause.specs.Renewing.{renewed_lines, last_lines, LeadsTo, IsRenewingAt}
+use Rattle.cep_cause.specs.StepwiseLaws.{StepwiseLaws}
 use Rattle.cep_cause.specs.Touches.{Touch, AreTouchesOf}
 use Rattle.cep_cause.specs.Reorderings.{IsReordering}
 use Rattle.cep_cause.specs.Reordered.{StandAt, unlisted, AreUnlistedSteps, AreLegalIn, IsTextIn, IsTooLongIn}

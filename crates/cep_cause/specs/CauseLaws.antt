@@ -9,6 +9,9 @@ use Rattle.cep_term.specs.Multiset.{Multiset, count_of, gathered, sum_of, differ
 use Rattle.cep_rule.specs.declared.signature.Signature.{Signature}
 use Rattle.cep_rule.specs.declared.rule.Rule.{Rule}
 use Rattle.cep_rule.specs.Typing.{AreValues, is_fact}
+use Rattle.cep_rule.specs.declared.parts.Parts.{Parts}
+use Rattle.cep_rule.specs.Derivations.{ProofTree, Proves}
+use Rattle.cep_rule.specs.Shapes.{IsProofOf}
 use Rattle.cep_rule.specs.Instances.{full_instances, left_of, used_by}
 use Rattle.cep_rule.specs.Matching.{state_after}
 use Rattle.cep_rule.specs.State.{IsState, Fits}
@@ -18,8 +21,8 @@ use Rattle.cep_rule.specs.Program.{IsTypedRule, IsDividedRule}
 use Rattle.cep_log.specs.Legal.{IsListing}
 
 -- What multisets do; what a step needs and uses up is there; a step leads to one state, which is a
--- state; using up and adding is a step, which gains what it makes; and a state that fits can be
--- listed.
+-- state; using up and adding is a step, which gains what it makes; a state that fits can be listed;
+-- and derivations have the program's shape.
 pub record CauseLaws : Type 0 where
   pub bags : BagLaws
   pub contained : (signature : Signature) (rule : Rule) (values : List Tree) (old new : Multiset)
@@ -55,3 +58,5 @@ pub record CauseLaws : Type 0 where
       (gathered (gained (is_fact signature) (difference_of state taken) added))
   pub listing : (signature : Signature) (state : Multiset) → IsState signature state → Fits state
       → IsListing signature (finite.entries state)
+  pub shapes : (program : Parts) (proof : ProofTree) (a : AtomTree) → Proves program proof a
+      → IsProofOf program proof

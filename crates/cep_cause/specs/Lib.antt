@@ -5,3 +5,6 @@ pub mod Reordered
 pub mod Graphs
 pub mod CauseLaws
 pub mod Walking
+pub mod Renewed
+pub mod Renewing
+pub mod StepwiseLaws

@@ -1,5 +1,6 @@
 -- A log whose steps are done in another order.
 use Rattle.std.specs.Prelude.{◌≡◌, ℕ, ◌+◌, ◌<◌, List, [], ◌∷◌, ◌++◌, length, map, None, Some, slice_get, IsSomeAnd}
+use Rattle.std.specs.List.{AllByRecursion}
 use Rattle.cep_base.specs.declared.limits.TheConstants.{MOST_LOG}
 use Rattle.cep_term.specs.Multiset.{Multiset}
 use Rattle.cep_rule.specs.declared.rule.Rule.{Rule}
@@ -13,6 +14,7 @@ use Rattle.cep_log.specs.declared.log.LogStep.{LogStep}
 use Rattle.cep_log.specs.Legal.{AreLegalSteps, IsLegalEnd}
 use Rattle.cep_log.specs.Transcript.{HasLog}
 use Rattle.cep_log.specs.Written.{text_of, IsRenewal}
+use Rattle.cep_cause.specs.Reorderings.{step_places}
 use Rattle.cep_cause.specs.declared.reordered.Reordered.{Reordered}
 use Rattle.cep_cause.specs.declared.reordered.Reordered.TheVariants as answer
 
@@ -38,6 +40,11 @@ pub record IsRenewalIn (program : Parts) (places : List ℕ) (old new : Log) : T
 abbrev pub written_places : {X : Type 0} → ℕ → List X → List ℕ
 written_places place [] = []
 written_places place (x ∷ xs) = place ∷ written_places (place + 1) xs
+
+-- Numbers are those of all steps in the order in which they are written, counted from 1.
+pub record IsWrittenOrder (steps : List LogStep) (order : List ℕ) : Type 0 where
+  pub counted : AllByRecursion (λ number. 0 < number) order
+  pub places : step_places order ≡ written_places 0 steps
 
 -- the step with no listing after it
 abbrev pub unlisted : LogStep → LogStep

@@ -15,8 +15,8 @@ use Rattle.cep_lines.specs.Lines.{header}
 use Rattle.cep_log.specs.declared.log.Log.{Log}
 use Rattle.cep_log.specs.declared.log.LogStep.{LogStep}
 use Rattle.cep_log.specs.Legal.{IsLegal}
-use Rattle.cep_check.specs.Renewed.{IsTooLongRenewed}
-use Rattle.cep_check.specs.Renewing.{IsRenewingAt}
+use Rattle.cep_cause.specs.Renewed.{IsTooLongRenewed}
+use Rattle.cep_cause.specs.Renewing.{IsRenewingAt}
 use Rattle.cep_cause.specs.Reordered.{AreUnlistedSteps}
 
 -- A step can be done from a state, and what it makes is fit.

@@ -10,6 +10,7 @@ ghost use Rattle.cep_log.specs.Written.{IsRenewal};
 ghost use Rattle.cep_order.specs.declared.step_cause.StepCause.{StepCause};
 ghost use Rattle.cep_order.specs.Orders.{NamesEarlier, IsOrderBy};
 ghost use Rattle.cep_cause.specs.CauseLaws.{CauseLaws};
+ghost use Rattle.cep_cause.specs.StepwiseLaws.{StepwiseLaws};
 ghost use Rattle.cep_cause.specs.Tokens.{start_tokens, token_state};
 ghost use Rattle.cep_cause.specs.Touches.{Touch, present_after_all, AreTouchesOf};
 ghost use Rattle.cep_cause.specs.Reorderings.{IsReordering, IsOrder};
@@ -17,10 +18,10 @@ ghost use Rattle.cep_cause.specs.Graphs.{AreCauses};
 ghost use Rattle.cep_cause.specs.declared.reordered.Reordered.{Reordered};
 ghost use Rattle.cep_cause.specs.Reordered.{StandAt, written_places, unlisted, IsUnfitAt, IsInOrder, IsUnfitIn, AreLegalIn, IsRenewalIn, ComesTo};
 
-use cep_log::laws::{renewals_have_one_text, states_are_listings};
+use cep_log::laws::{logs_are_read_as_written, renewals_have_one_text, states_are_listings};
 use cep_rule::laws::{
-    edits_are_steps, edits_gain, one_state_after_a_step, sides_are_bags, steps_lead_to_states,
-    what_is_needed_is_there,
+    derivations_have_shape, edits_are_steps, edits_gain, one_state_after_a_step, sides_are_bags,
+    steps_lead_to_states, what_is_needed_is_there,
 };
 use cep_term::laws::bags_are_lawful;
 
@@ -36,6 +37,17 @@ pub(crate) fn causes_are_lawful()
     sides_are_bags();
     states_are_listings();
     steps_lead_to_states();
+    derivations_have_shape();
+}
+
+// A legal log is renewed step by step: the lines of its first step, where that leads, are written
+// after the lines of the start, and so on, and the lines of the end after all. If these are too long,
+// or already some of them, no transcript is the log's in version 2.
+pub(crate) fn logs_are_renewed_step_by_step()
+    ensures { StepwiseLaws }
+{
+    causes_are_lawful();
+    logs_are_read_as_written();
 }
 
 /// The steps of a legal log, done in an order that respects what they do to tokens, are legal one

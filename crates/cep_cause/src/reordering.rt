@@ -7,11 +7,11 @@ ghost use Rattle.cep_cause.specs.Reorderings.{IsOrder, step_places};
 ghost use Rattle.cep_cause.specs.Reordered.{ComesTo};
 ghost use Rattle.cep_cause.specs.Walking.{IsToldIn};
 
+use crate::ending::{is_long, put_last};
+use crate::laws::logs_are_renewed_step_by_step;
 use crate::reordered::Reordered;
 use crate::walking::walk;
 use cep_base::Text;
-use cep_check::laws::logs_are_renewed_step_by_step;
-use cep_check::{is_long, put_last};
 use cep_lines::put_start;
 use cep_log::Log;
 use cep_order::Numbers;

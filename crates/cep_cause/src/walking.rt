@@ -3,18 +3,17 @@ ghost use Rattle.std.specs.Prelude.{◌≡◌, ◌++◌, List, IfOk, OnOk, Match
 ghost use Rattle.cep_rule.specs.State.{IsState};
 ghost use Rattle.cep_lines.specs.Lines.{header};
 ghost use Rattle.cep_log.specs.Legal.{IsLegal};
-ghost use Rattle.cep_check.specs.Renewing.{CanBePut, renewed_lines};
+ghost use Rattle.cep_cause.specs.Renewing.{CanBePut, renewed_lines};
 ghost use Rattle.cep_cause.specs.Touches.{Touch, AreTouchesOf};
 ghost use Rattle.cep_cause.specs.Reorderings.{IsOrder, step_places};
 ghost use Rattle.cep_cause.specs.Reordered.{IsUnfitIn};
 ghost use Rattle.cep_cause.specs.Walking.{WritesUnlessLong, IsToldIn};
 
 use crate::ahead::{BLOCK, rules_at};
+use crate::ending::is_long;
 use crate::going::go_on;
-use crate::laws::causes_are_lawful;
+use crate::laws::{causes_are_lawful, logs_are_renewed_step_by_step};
 use cep_base::{List, Text};
-use cep_check::is_long;
-use cep_check::laws::logs_are_renewed_step_by_step;
 use cep_lines::put_deed;
 use cep_log::{Log, LogStep};
 use cep_order::Numbers;

@@ -9,6 +9,3 @@ pub mod Tellable
 pub mod Once
 pub mod OneStepCause
 pub mod OneCause
-pub mod RenewedBytes
-pub mod RenewedSteps
-pub mod RenewedLogs

@@ -16,7 +16,7 @@ use Rattle.cep_log.specs.declared.log.LogStep.{LogStep}
 use Rattle.cep_log.specs.declared.log.LogEnd.{LogEnd}
 use Rattle.cep_log.specs.Legal.{AtomsRise, IsListing, IsStepOf, IsLogOf}
 use Rattle.cep_check.specs.declared.cause.Cause.{Cause}
-use Rattle.cep_check.specs.declared.cause.Cause.TheVariants.{StartStage, StartState, OtherStage, NotContained, NotProved, TooHigh, NotQuiet, OverLimit, StageLine, MidState, NotEnded, EndState}
+use Rattle.cep_check.specs.declared.cause.Cause.TheVariants.{StartStage, StartState, NotQuiet, NotEnded, EndState}
 use Rattle.cep_check.specs.Causes.{IsFirstAsked, IsTrulyQuiet, IsStartCause, IsStepCause, IsEndCause, IsRefusedFrom, IsLogRefused}
 use Rattle.cep_check.proofs.Once.{OffersOrdered, first_asked_once, difference_once}
 use Rattle.cep_check.proofs.OneStepCause.{AreToldAlike, counts_alike, stages_alike, step_alike}

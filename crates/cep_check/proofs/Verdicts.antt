@@ -1,5 +1,5 @@
 -- What a check comes to, from what its parts find.
-use Rattle.std.proofs.Common.{◌≡◌, ◌≤◌, inr, ℕ, List, [], ◌∷◌, length, drop, Some, None, refl, sym, subst}
+use Rattle.std.proofs.Common.{◌≡◌, ◌≤◌, inr, ℕ, List, [], ◌∷◌, length, drop, refl, sym, subst}
 use Rattle.std.specs.FinMap as finite
 use Rattle.std.proofs.lemmas.List.{drop_all}
 use Rattle.cep_rule.specs.declared.parts.Parts.{Parts}

@@ -8,10 +8,7 @@ ghost use Rattle.cep_check.specs.declared.cause.Verdict.{Verdict};
 ghost use Rattle.cep_check.specs.Causes.{IsLogRefused, IsVerdict};
 ghost use Rattle.cep_check.specs.Telling.{cause_text, IsTellable};
 ghost use Rattle.cep_log.specs.Legal.{IsLegal, IsLogOf};
-ghost use Rattle.cep_check.specs.StepwiseLaws.{StepwiseLaws};
 
-use crate::renewing::laws::renewing_is_lawful;
-use cep_log::laws::logs_are_read_as_written;
 use cep_rule::Program;
 use cep_rule::laws::{
     atoms_come_from_somewhere, offers_have_one_order, one_state_after_a_step, types_are_lawful,
@@ -56,14 +53,4 @@ pub fn verdicts_can_be_told(program: &Program)
     types_are_lawful();
     atoms_come_from_somewhere();
     program.parts();
-}
-
-/// A legal log is renewed step by step: the lines of its first step, where that leads, are written
-/// after the lines of the start, and so on, and the lines of the end after all. If these are too long,
-/// or already some of them, no transcript is the log's in version 2.
-pub fn logs_are_renewed_step_by_step()
-    ensures { StepwiseLaws }
-{
-    renewing_is_lawful();
-    logs_are_read_as_written();
 }

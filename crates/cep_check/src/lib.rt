@@ -1,5 +1,4 @@
-//! The checker of transcripts: whether a log is legal for a program, and if not, the first cause;
-//! and legal logs renewed, as their text in version 2.
+//! The checker of transcripts: whether a log is legal for a program, and if not, the first cause.
 //!
 //! The steps of the log are done one after another, on one state that is edited in place. The
 //! offers of a group are looked for only where the log claims that there is none: at a rule that
@@ -14,11 +13,9 @@ mod ending;
 pub mod laws;
 mod needed;
 mod premises;
-mod renewing;
 mod step;
 mod telling;
 
 pub use cause::{Cause, Verdict};
 pub use checking::check;
-pub use renewing::{is_long, put_last, renew};
 pub use telling::{put_fault, put_verdict};

@@ -23,7 +23,7 @@ use Rattle.cep_check.specs.declared.cause.Verdict.{Verdict}
 use Rattle.cep_check.specs.declared.cause.Verdict.TheVariants as verdicts
 use Rattle.cep_check.specs.Causes.{IsLogRefused, IsVerdict}
 use Rattle.cep_check.specs.Telling.{verdict_text, fault_text}
-use Rattle.cep_check.specs.Renewed.{IsTooLongRenewed}
+use Rattle.cep_cause.specs.Renewed.{IsTooLongRenewed}
 use Rattle.cep_cause.specs.declared.reordered.Reordered.{Reordered}
 use Rattle.cep_cause.specs.declared.reordered.Reordered.TheVariants.{Done, Unfit, TooLong}
 use Rattle.cep_graph.specs.BySeed.{IsReorderedBy}

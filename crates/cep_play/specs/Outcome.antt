@@ -18,7 +18,7 @@ use Rattle.cep_check.specs.declared.cause.Verdict.{Verdict}
 use Rattle.cep_check.specs.declared.cause.Verdict.TheVariants as verdicts
 use Rattle.cep_check.specs.Causes.{IsVerdict}
 use Rattle.cep_check.specs.Telling.{verdict_text}
-use Rattle.cep_check.specs.Renewed.{IsRenewedText, IsTooLongRenewed}
+use Rattle.cep_cause.specs.Renewed.{IsRenewedText, IsTooLongRenewed}
 use Rattle.cep_words.specs.Words.{Request, Play, AskFor}
 use Rattle.cep_base.specs.declared.console.Event.{Event}
 use Rattle.cep_run.specs.declared.settings.Settings.{Settings}

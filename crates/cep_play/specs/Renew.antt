@@ -2,7 +2,7 @@
 use Rattle.std.specs.Prelude.{ℕ, List, codes}
 use Rattle.cep_rule.specs.declared.parts.Parts.{Parts}
 use Rattle.cep_log.specs.declared.log.Log.{Log}
-use Rattle.cep_check.specs.Renewed.{IsRenewedText, IsTooLongRenewed}
+use Rattle.cep_cause.specs.Renewed.{IsRenewedText, IsTooLongRenewed}
 use Rattle.cep_play.specs.Check.{IsLegalTranscript}
 
 -- The bytes are a legal transcript, and the text is that of its log renewed.

@@ -13,4 +13,5 @@ returns c = record {
   gain = c.edits_gain.ensures;
   listing = c.states_are_listings.ensures;
   lead = c.steps_lead_to_states.ensures;
+  shapes = c.derivations_have_shape.ensures;
 }

@@ -1,19 +1,16 @@
 -- The steps of a legal log are renewed one after another.
-use Rattle.std.proofs.Common.{◌≡◌, ℕ, zero, suc, ◌+◌, ◌<◌, ◌≤◌, List, [], ◌∷◌, ◌++◌, length, length-append, drop, append_assoc, append-nil, Some, None, refl, sym, ap, ◌∙◌, subst, arith, add-one}
-use Rattle.std.specs.Prelude.{slice_get, is_some, IfSome}
+use Rattle.std.proofs.Common.{◌≡◌, ℕ, ◌+◌, ◌<◌, List, [], ◌∷◌, ◌++◌, length, length-append, append_assoc, append-nil, Some, None, refl, sym, ap, ◌∙◌, subst, arith}
+use Rattle.std.specs.Prelude.{is_some, IfSome}
 use Rattle.std.specs.List.{AllByRecursion, flat_map}
 use Rattle.std.specs.FinMap as finite
 use Rattle.std.proofs.lemmas.Grind.{flat_map-append}
 use Rattle.cep_base.specs.declared.limits.TheConstants.{MOST_LOG}
-use Rattle.cep_base.proofs.Lists.{none_some, some_same, holds_at}
+use Rattle.cep_base.proofs.Lists.{holds_at}
 use Rattle.cep_term.specs.Tree.{AtomTree}
 use Rattle.cep_term.specs.Multiset.{Multiset}
 use Rattle.cep_rule.specs.declared.rule.Rule.{Rule}
 use Rattle.cep_rule.specs.declared.parts.Parts.{Parts}
-use Rattle.cep_rule.specs.State.{IsState, Fits}
-use Rattle.cep_step.specs.declared.limit.Limit.{Limit}
-use Rattle.cep_step.specs.declared.limit.Limit.TheVariants.{Atom, State}
-use Rattle.cep_step.specs.Passing.{Passes}
+use Rattle.cep_rule.specs.State.{IsState}
 use Rattle.cep_step.specs.Spots.{IsSpotOf}
 use Rattle.cep_rule.specs.Derivations.{ProofTree}
 use Rattle.cep_rule.specs.Shapes.{IsProofOf}
@@ -25,29 +22,11 @@ use Rattle.cep_log.specs.declared.log.Log.{Log}
 use Rattle.cep_log.specs.declared.log.LogStep.{LogStep}
 use Rattle.cep_log.specs.Legal.{IsListing, IsStepOf, IsLegalStep, AreLegalSteps, IsLegal}
 use Rattle.cep_log.specs.Written.{step_texts, steps_texts}
-use Rattle.cep_check.specs.RenewLaws.{RenewLaws}
-use Rattle.cep_check.specs.Renewing.{CanBePut, CanBeDone, LeadsTo, PassesAt, renewed_lines, AreRenewedLines, AreAllRenewed, AreRenewedOrLong, IsRenewingAt}
-use Rattle.cep_check.proofs.RenewedBytes.{listed, due_mid, step_written}
+use Rattle.cep_cause.specs.CauseLaws.{CauseLaws}
+use Rattle.cep_cause.specs.Renewing.{CanBePut, LeadsTo, renewed_lines, AreRenewedLines, AreAllRenewed, AreRenewedOrLong, IsRenewingAt}
+use Rattle.cep_cause.proofs.RenewedBytes.{listed, due_mid, step_written}
 
--- Places
-
-left_one : {A : Type 0} (xs : List A) (i : ℕ) (x : A) → slice_get xs i ≡ Some x → drop i xs ≡ x ∷ drop (suc i) xs
-left_one [] i x at = none_some x at
-left_one (first ∷ xs) zero x at = ap (λ it. it ∷ xs) (some_same first x at)
-left_one (first ∷ xs) (suc i) x at = left_one xs i x at
-
--- what is left from a place on is what is there, and all after it
-pub left_at : {A : Type 0} (xs : List A) (i : ℕ) (x : A) → slice_get xs i ≡ Some x → drop i xs ≡ x ∷ drop (i + 1) xs
-left_at xs i x at = left_one xs i x at ∙ ap (λ n. x ∷ drop n xs) (sym (add-one i))
-
--- nothing is left from the end on
-pub none_left : {A : Type 0} (xs : List A) (i : ℕ) → length xs ≤ i → drop i xs ≡ []
-none_left [] zero all = refl
-none_left [] (suc i) all = refl
-none_left (x ∷ xs) zero all = absurd (omega arith)
-none_left (x ∷ xs) (suc i) all = none_left xs i (omega arith)
-
-module _ (laws : RenewLaws) (program : Parts) (is : IsProgram program) (height : ℕ) where
+module _ (laws : CauseLaws) (program : Parts) (is : IsProgram program) (height : ℕ) where
   -- Single steps
 
   all_of_shape : (proofs : List ProofTree) (atoms : List AtomTree) → AreProofs program height proofs atoms → AllByRecursion (IsProofOf program) proofs
@@ -58,26 +37,6 @@ module _ (laws : RenewLaws) (program : Parts) (is : IsProgram program) (height :
   -- a legal step can be put
   pub legal_put : (old new : Spot) (step : LogStep) → IsStepOf program step → IsLegalStep program height old new step → CanBePut program step
   legal_put old new step of legal = grind (arith, all_of_shape, program.signature.cons, step.offer.values, legal.machine.numbered, legal.machine.values, step.proofs, legal.rule.backs, legal.machine.proved, of.in_range)
-
-  -- and can be done
-  legal_can : (old new : Spot) (step : LogStep) → IsLegalStep program height old new step → CanBeDone program step old
-  legal_can old new step legal = record {
-    rule = legal.rule;
-    numbered = legal.machine.numbered;
-    can = record {
-      number = step.offer.rule;
-      numbered = legal.machine.numbered;
-      are = legal.machine.values;
-      contained = laws.needs program.signature legal.rule step.offer.values old.state new.state legal.machine.steps.step;
-    };
-  }
-
-  -- and passes no limit
-  legal_fits : (old new : Spot) (step : LogStep) (limit : Limit) → IsLegalStep program height old new step → PassesAt program step old.state limit → ⊥
-  legal_fits old new step limit legal passes = by limit (subst (λ (rule : Rule). Passes program.signature rule step.offer.values old.state limit) (cc (legal.machine.numbered, passes.numbered)) passes.over) where
-    by : (limit : Limit) → Passes program.signature legal.rule step.offer.values old.state limit → ⊥
-    by Atom over = over legal.machine.steps.fit
-    by State over = over.1.2 (subst Fits (laws.one_state program.signature legal.rule step.offer.values old.state new.state over.1.0 legal.machine.steps.step over.1.1) legal.machine.steps.fits)
 
   -- it leads to one spot
   legal_leads : (old one other : Spot) (step : LogStep) → IsLegalStep program height old one step → LeadsTo program step old other → one ≡ other
@@ -142,7 +101,7 @@ module _ (laws : RenewLaws) (program : Parts) (is : IsProgram program) (height :
       let later = lines_there (number + 1) steps legal.0 last after of.1 legal.2 in
       (renewed_lines program number step legal.0.state ++ later.0, lines_more number step steps old legal.0 last of.0 legal.1 after later.0 later.1)
 
-module _ (laws : RenewLaws) (program : Parts) (is : IsProgram program) (log : Log) where
+module _ (laws : CauseLaws) (program : Parts) (is : IsProgram program) (log : Log) where
   -- Nothing is renewed yet.
   pub renewing_begins : (before : List ℕ) (spot : Spot) → IsLegal program log → spot ≡ start_spot program → IsSpotOf program spot → IsRenewingAt program log 1 log.steps before before spot
   renewing_begins before spot legal starts here = record {
@@ -172,27 +131,6 @@ module _ (laws : RenewLaws) (program : Parts) (is : IsProgram program) (log : Lo
               let more = at.whole (lines ++ rest) (lines_more laws program is log.height number step left spot new at.last at.of_program.0 legal of_program.is_state rest are) in
               (more.0, more.1, more.2 ∙ sym (append_assoc text lines rest));
         }
-
-    module _ (steps : List LogStep) (i : ℕ) (step : LogStep) (there : slice_get steps i ≡ Some step) (at : IsRenewingAt program log number (drop i steps) before text spot) where
-      -- The step at a place is the first of those that are left.
-      next : IsRenewingAt program log number (step ∷ drop (i + 1) steps) before text spot
-      next = subst (λ (left : List LogStep). IsRenewingAt program log number left before text spot) (left_at steps i step there) at
-
-      -- It can be put, and done, and passes no limit.
-      pub next_put : CanBePut program step
-      next_put = legal_put laws program is log.height spot next.legal.0 step next.of_program.0 next.legal.1
-
-      pub next_can : CanBeDone program step spot
-      next_can = legal_can laws program is log.height spot next.legal.0 step next.legal.1
-
-      pub next_fits : (limit : Limit) → PassesAt program step spot.state limit → ⊥
-      next_fits limit passes = legal_fits laws program is log.height spot next.legal.0 step limit next.legal.1 passes
-
-      -- The same of a step at a place.
-      pub renewing_goes_on : (new : Spot) (longer : List ℕ) → LeadsTo program step spot new × IsSpotOf program new × (longer ≡ text ++ renewed_lines program number step new.state)
-          → IsRenewingAt program log (number + 1) (drop (i + 1) steps) before longer new
-      renewing_goes_on new longer done =
-          subst (λ (longer : List ℕ). IsRenewingAt program log (number + 1) (drop (i + 1) steps) before longer new) (sym done.2) (one_more_renewed step (drop (i + 1) steps) next new done.0 done.1)
 
     -- All steps are renewed.
     pub renewing_ends : (left : List LogStep) → left ≡ [] → IsRenewingAt program log number left before text spot → AreRenewedOrLong program log before text (Some spot)

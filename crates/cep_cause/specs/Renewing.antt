@@ -1,3 +1,4 @@
+-- Private.
 -- How a log is renewed, step by step.
 use Rattle.std.specs.Prelude.{◌≡◌, ℕ, ◌<◌, List, [], ◌++◌, length, Option, Some, None, slice_get, IfSome, IsSomeAnd}
 use Rattle.std.specs.List.{AllByRecursion, AllZip, flat_map}
@@ -8,9 +9,6 @@ use Rattle.cep_rule.specs.declared.signature.Signature.{Signature}
 use Rattle.cep_rule.specs.declared.parts.Parts.{Parts}
 use Rattle.cep_rule.specs.Shapes.{IsOfferOf, IsProofOf}
 use Rattle.cep_rule.specs.Steps.{Spot, StepsTo, start_spot}
-use Rattle.cep_step.specs.declared.limit.Limit.{Limit}
-use Rattle.cep_step.specs.Changes.{CanStep}
-use Rattle.cep_step.specs.Passing.{Passes}
 use Rattle.cep_step.specs.Spots.{IsSpotOf}
 use Rattle.cep_lines.specs.declared.version.Version.TheVariants.{Two}
 use Rattle.cep_lines.specs.Lines.{line, deed_lines, end_lines}
@@ -27,24 +25,11 @@ pub record CanBePut (program : Parts) (step : LogStep) : Type 0 where
   pub proofs : AllByRecursion (IsProofOf program) step.proofs
   pub stage : IfSome step.stage (λ stage. stage < length program.stages)
 
--- A step can be done from a spot, whether or not it passes a limit: by its rule with its values.
-pub record CanBeDone (program : Parts) (step : LogStep) (spot : Spot) : Type 0 where
-  pub rule : Rule
-  pub numbered : slice_get program.rules step.offer.rule ≡ Some rule
-  pub can : CanStep program rule step.offer.values spot.state
-
 -- A step leads from one spot to another, by its rule with its values.
 pub record LeadsTo (program : Parts) (step : LogStep) (old new : Spot) : Type 0 where
   pub rule : Rule
   pub numbered : slice_get program.rules step.offer.rule ≡ Some rule
   pub steps : StepsTo program rule step.offer.values old new
-
--- A step from a state passes a limit.
-pub record PassesAt (program : Parts) (step : LogStep) (state : Multiset) (limit : Limit)
-    : Type 0 where
-  pub rule : Rule
-  pub numbered : slice_get program.rules step.offer.rule ≡ Some rule
-  pub over : Passes program.signature rule step.offer.values state limit
 
 -- the lines of the step of a number in version 2, where it leads to a state
 abbrev pub renewed_lines : Parts → ℕ → LogStep → Multiset → List ℕ

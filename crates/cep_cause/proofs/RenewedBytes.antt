@@ -14,7 +14,7 @@ use Rattle.cep_log.specs.declared.log.LogMid.{LogMid}
 use Rattle.cep_log.specs.declared.log.LogEnd.{LogEnd}
 use Rattle.cep_log.specs.Transcript.{stage_texts}
 use Rattle.cep_log.specs.Written.{mid_texts, step_texts, end_texts}
-use Rattle.cep_check.specs.Renewing.{renewed_lines, last_lines}
+use Rattle.cep_cause.specs.Renewing.{renewed_lines, last_lines}
 
 -- the listing of a state, with no line of its own yet
 abbrev pub listed : Multiset → LogMid

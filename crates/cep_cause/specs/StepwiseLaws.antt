@@ -1,3 +1,4 @@
+-- Private.
 -- The laws by which a log is renewed step by step.
 use Rattle.std.specs.Prelude.{◌≡◌, ℕ, ◌+◌, ◌<◌, ◌≤◌, List, [], ◌∷◌, ◌++◌, length}
 use Rattle.cep_base.specs.declared.limits.TheConstants.{MOST_LOG}
@@ -9,8 +10,8 @@ use Rattle.cep_lines.specs.Lines.{header}
 use Rattle.cep_log.specs.declared.log.Log.{Log}
 use Rattle.cep_log.specs.declared.log.LogStep.{LogStep}
 use Rattle.cep_log.specs.Legal.{IsStepOf, IsLegalStep, IsLegal}
-use Rattle.cep_check.specs.Renewed.{IsRenewedText, IsTooLongRenewed}
-use Rattle.cep_check.specs.Renewing.{CanBePut, LeadsTo, renewed_lines, last_lines, IsRenewingAt}
+use Rattle.cep_cause.specs.Renewed.{IsRenewedText, IsTooLongRenewed}
+use Rattle.cep_cause.specs.Renewing.{CanBePut, LeadsTo, renewed_lines, last_lines, IsRenewingAt}
 
 -- A legal step can be put. A legal log is being renewed at first, and after each step that is done
 -- and whose lines are written. What is too long so far is too long in the end. After all steps it is

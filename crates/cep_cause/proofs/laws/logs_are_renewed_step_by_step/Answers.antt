@@ -1,12 +1,12 @@
 use Rattle.std.proofs.Common.{[], refl}
 use Rattle.cep_lines.specs.Lines.{header}
-use Rattle.cep_check.proofs.RenewedSteps.{legal_put, renewing_begins, one_more_renewed, renewing_too_long, renewing_ends}
-use Rattle.cep_check.proofs.RenewedLogs.{whole_written, front_too_long, short_enough, too_long}
-use Rattle.cep_check.proofs.laws.logs_are_renewed_step_by_step.Goals as goal
+use Rattle.cep_cause.proofs.RenewedSteps.{legal_put, renewing_begins, one_more_renewed, renewing_too_long, renewing_ends}
+use Rattle.cep_cause.proofs.RenewedLogs.{whole_written, front_too_long, short_enough, too_long}
+use Rattle.cep_cause.proofs.laws.logs_are_renewed_step_by_step.Goals as goal
 
 pub returns : goal.returns
 returns c =
-    let laws = c.renewing_is_lawful.ensures in
+    let laws = c.causes_are_lawful.ensures in
     record {
       put = λ program height old new step is of legal. legal_put laws program is height old new step of legal;
       begins = λ program log before spot is legal starts here. renewing_begins laws program is log before spot legal starts here;

@@ -18,9 +18,9 @@ use Rattle.cep_log.specs.declared.log.LogEnd.{LogEnd}
 use Rattle.cep_log.specs.Legal.{IsListing, IsLegalEnd, IsLegal}
 use Rattle.cep_log.specs.Transcript.{HasLog}
 use Rattle.cep_log.specs.Written.{start_texts, steps_texts, end_texts, text_of, TellSteps, TellLog, DoTheSame, SayTheSame, EndTheSame, TellTheSame, IsRenewal}
-use Rattle.cep_check.specs.Renewed.{IsRenewedText, IsTooLongRenewed}
-use Rattle.cep_check.specs.Renewing.{last_lines, AreAllRenewed, AreRenewedOrLong}
-use Rattle.cep_check.proofs.RenewedBytes.{end_at, header_written, last_written}
+use Rattle.cep_cause.specs.Renewed.{IsRenewedText, IsTooLongRenewed}
+use Rattle.cep_cause.specs.Renewing.{last_lines, AreAllRenewed, AreRenewedOrLong}
+use Rattle.cep_cause.proofs.RenewedBytes.{end_at, header_written, last_written}
 
 -- A log renewed, and its text.
 pub record IsRenewedAs (program : Parts) (old : Log) (text : List ℕ) : Type 0 where
