@@ -24,3 +24,4 @@ pub mod RenewedBytes
 pub mod RenewedSteps
 pub mod RenewedLogs
 pub mod WrittenOrder
+pub mod RenewedInOrder

@@ -24,9 +24,9 @@ use Rattle.cep_cause.proofs.RenewedBytes.{end_at, header_written, last_written}
 
 -- A log renewed, and its text.
 pub record IsRenewedAs (program : Parts) (old : Log) (text : List ℕ) : Type 0 where
-  new : Log
-  renews : IsRenewal program old new
-  written : text ≡ text_of program new
+  pub new : Log
+  pub renews : IsRenewal program old new
+  pub written : text ≡ text_of program new
 
 -- a text that is not too long
 pub not_long : (is : Bool) (text : List ℕ) → is ≡ false → (IsTrue is ↔ (MOST_LOG < length text)) → length text ≤ MOST_LOG

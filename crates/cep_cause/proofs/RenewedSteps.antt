@@ -93,7 +93,7 @@ module _ (laws : CauseLaws) (program : Parts) (is : IsProgram program) (height :
       }
 
   -- all legal steps have lines
-  lines_there : (number : ℕ) (steps : List LogStep) (old last : Spot) → IsState program.signature old.state → AllByRecursion (IsStepOf program) steps → AreLegalSteps program height steps old last
+  pub lines_there : (number : ℕ) (steps : List LogStep) (old last : Spot) → IsState program.signature old.state → AllByRecursion (IsStepOf program) steps → AreLegalSteps program height steps old last
       → (bytes : List ℕ) × AreRenewedLines program height number steps old last bytes
   lines_there number [] old last before of legal = ([], record { new = []; does = tt; of_program = tt; listed = tt; legal = legal; written = refl })
   lines_there number (step ∷ steps) old last before of legal =

@@ -1,5 +1,5 @@
-use Rattle.cep_cause.proofs.Told.{told_in_order}
+use Rattle.cep_cause.proofs.RenewedInOrder.{renewal_in_order}
 use Rattle.cep_cause.proofs.laws.reorderings_can_be_told.Goals as goal
 
 pub returns : goal.returns
-returns c = told_in_order c.causes_are_lawful.ensures
+returns c = renewal_in_order c.causes_are_lawful.ensures
