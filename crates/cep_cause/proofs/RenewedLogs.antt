@@ -1,9 +1,8 @@
 -- A log whose steps are renewed is renewed, and its text is what is written.
-use Rattle.std.proofs.Common.{◌≡◌, ℕ, ◌+◌, ◌<◌, ◌≤◌, List, [], ◌∷◌, ◌++◌, length, length-append, append_assoc, Bool, true, false, Option, Some, None, refl, sym, ap, ◌∙◌, subst, arith}
-use Rattle.std.specs.Prelude.{IfSome, IsSomeAnd, IsTrue, ◌↔◌}
+use Rattle.std.proofs.Common.{◌≡◌, ℕ, ◌+◌, ◌<◌, ◌≤◌, List, [], ◌∷◌, ◌++◌, length, length-append, append_assoc, Option, Some, None, refl, sym, ap, ◌∙◌, subst, arith}
+use Rattle.std.specs.Prelude.{IfSome, IsSomeAnd}
 use Rattle.std.specs.List.{AllZip, flat_map}
 use Rattle.std.specs.FinMap as finite
-use Rattle.std.proofs.lemmas.Bool.{false≢true}
 use Rattle.std.proofs.lemmas.Grind.{flat_map-append}
 use Rattle.std.proofs.lemmas.Slice.Zip.{AllZip-long}
 use Rattle.cep_base.specs.declared.limits.TheConstants.{MOST_LOG}
@@ -27,11 +26,6 @@ pub record IsRenewedAs (program : Parts) (old : Log) (text : List ℕ) : Type 0 
   pub new : Log
   pub renews : IsRenewal program old new
   pub written : text ≡ text_of program new
-
--- a text that is not too long
-pub not_long : (is : Bool) (text : List ℕ) → is ≡ false → (IsTrue is ↔ (MOST_LOG < length text)) → length text ≤ MOST_LOG
-not_long true text untrue tests = absurd (false≢true (sym untrue))
-not_long false text untrue tests = let short : ¬ (MOST_LOG < length text) = λ long. absurd (false≢true (tests.1 long)) in omega (arith, short)
 
 -- Ends
 
