@@ -1,4 +1,4 @@
-ghost use Rattle.std.specs.Prelude.{◌≡◌, [], not, map, position, slice_get, IfOk, OnErr};
+ghost use Rattle.std.specs.Prelude.{◌≡◌, [], ◌∷◌, ◌++◌, false, not, map, position, slice_get, IfOk, OnOk, OnErr};
 ghost use Rattle.std.specs.Str.{bytes_eq};
 ghost use Rattle.cep_base.specs.FirstNames.{has_name, under_name, added, names_among};
 
@@ -38,6 +38,18 @@ impl<T: Copy> FirstNames<T> {
         }
     }
 
+    /// Adds a name that is not there at the end with what it comes with, in one look-up. After out
+    /// of memory the names are as before.
+    pub fn push(&mut self, name: &[u8], with: T) -> Result<(), AllocError>
+        requires { has_name self.old name.now ≡ false }
+        ensures ok { OnOk result (self.new ≡ self.old ++ (name.now, with) ∷ []) }
+        ensures err { OnErr result (self.new ≡ self.old) }
+    {
+        let name = Vec::from_slice(*self.entries.allocator(), name)?;
+        self.entries.insert(name, with)?;
+        Ok(())
+    }
+
     /// Adds a name at the end with what it comes with, and answers true, unless it is there. After
     /// out of memory the names are as before.
     pub fn add(&mut self, name: &[u8], with: T) -> Result<bool, AllocError>
@@ -45,11 +57,10 @@ impl<T: Copy> FirstNames<T> {
         ensures entries { IfOk result (λ new. self.new ≡ added self.old (name.now, with)) }
         ensures err { OnErr result (self.new ≡ self.old) }
     {
-        if self.entries.contains_key(name) {
+        if self.has_name(name) {
             return Ok(false);
         }
-        let name = Vec::from_slice(*self.entries.allocator(), name)?;
-        self.entries.insert(name, with)?;
+        self.push(name, with)?;
         Ok(true)
     }
 

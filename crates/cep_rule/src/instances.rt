@@ -28,7 +28,7 @@ fn term_by(alloc: Global, term: &Term, values: &Terms) -> Result<Term, AllocErro
         Term::Var(v) => copy_term(alloc, values.get(*v as usize)),
         Term::App(c, args) => {
             let args = args_by(alloc, args, values)?;
-            Ok(Term::App(*c, Box::new(alloc, args)?))
+            Term::app(alloc, *c, args)
         }
     }
 }
@@ -45,7 +45,7 @@ fn args_by(alloc: Global, args: &Args, values: &Terms) -> Result<Args, AllocErro
         Args::Cons(t, rest) => {
             let t = term_by(alloc, t, values)?;
             let rest = args_by(alloc, rest, values)?;
-            Ok(Args::Cons(t, Box::new(alloc, rest)?))
+            Args::cons(alloc, t, rest)
         }
     }
 }

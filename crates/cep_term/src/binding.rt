@@ -140,7 +140,7 @@ fn term_under(alloc: Global, t: &Term, values: &[Option<Term>]) -> Result<Term, 
         },
         Term::App(c, args) => {
             let args = args_under(alloc, args, values)?;
-            Ok(Term::App(*c, Box::new(alloc, args)?))
+            Term::app(alloc, *c, args)
         }
     }
 }
@@ -156,7 +156,7 @@ fn args_under(alloc: Global, args: &Args, values: &[Option<Term>]) -> Result<Arg
         Args::Cons(t, rest) => {
             let t = term_under(alloc, t, values)?;
             let rest = args_under(alloc, rest, values)?;
-            Ok(Args::Cons(t, Box::new(alloc, rest)?))
+            Args::cons(alloc, t, rest)
         }
     }
 }

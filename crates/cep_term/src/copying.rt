@@ -23,7 +23,7 @@ pub fn copy_term(alloc: Global, t: &Term) -> Result<Term, AllocError>
         Term::Var(v) => Ok(Term::Var(*v)),
         Term::App(c, args) => {
             let args = copy_args(alloc, args)?;
-            Ok(Term::App(*c, Box::new(alloc, args)?))
+            Term::app(alloc, *c, args)
         }
     }
 }
@@ -38,7 +38,7 @@ fn copy_args(alloc: Global, args: &Args) -> Result<Args, AllocError>
         Args::Cons(t, rest) => {
             let t = copy_term(alloc, t)?;
             let rest = copy_args(alloc, rest)?;
-            Ok(Args::Cons(t, Box::new(alloc, rest)?))
+            Args::cons(alloc, t, rest)
         }
     }
 }

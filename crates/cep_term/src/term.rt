@@ -1,3 +1,8 @@
+ghost use Rattle.std.specs.Prelude.{◌≡◌, IfOk};
+ghost use Rattle.cep_term.specs.Tree.{node, more, tree_of, trees_of};
+
+use std::alloc::{AllocError, Global};
+
 /// A term: a variable by its number, or a constructor by its number with one term for each
 /// argument. Ceptre's first-order terms.
 #[derive(Drop)]
@@ -21,4 +26,22 @@ pub enum Args {
 pub struct Atom {
     pub pred: u32,
     pub args: Args,
+}
+
+impl Term {
+    /// A constructor with these arguments. Only out of memory is refused.
+    pub fn app(alloc: Global, con: u32, args: Args) -> Result<Term, AllocError>
+        ensures { IfOk result (λ t. tree_of t ≡ node con (trees_of args)) }
+    {
+        Ok(Term::App(con, Box::new(alloc, args)?))
+    }
+}
+
+impl Args {
+    /// These arguments with one more in front. Only out of memory is refused.
+    pub fn cons(alloc: Global, first: Term, rest: Args) -> Result<Args, AllocError>
+        ensures { IfOk result (λ args. trees_of args ≡ more (tree_of first) (trees_of rest)) }
+    {
+        Ok(Args::Cons(first, Box::new(alloc, rest)?))
+    }
 }
