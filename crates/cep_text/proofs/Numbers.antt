@@ -43,33 +43,11 @@ bytes_apart a b apart = cases (bytes_eq a b) refl where
 abbrev pub IsNotBefore : ℕ → List (List ℕ) → List ℕ → Type 0
 IsNotBefore i names name = number_among (take i names) name ≡ None
 
-pub not_before_none : (names : List (List ℕ)) (name : List ℕ) → IsNotBefore 0 names name
-unfolding number_among
-not_before_none names name = refl
-
 -- of the first name and the rest neither is this one
 pub first_apart : (same : Bool) (rest : Option ℕ) → cond same (Some zero) (rest >>= λ number. Some (suc number)) ≡ None → (same ≡ false) × (rest ≡ None)
 first_apart true rest e = absurd cc
 first_apart false None e = (refl, refl)
 first_apart false (Some number) e = absurd cc
-
--- one name more is another
-pub not_before_more : (i : ℕ) (names : List (List ℕ)) (name other : List ℕ) → slice_get names i ≡ Some other → bytes_eq other name ≡ false → IsNotBefore i names name → IsNotBefore (suc i) names name
-unfolding number_among
-not_before_more i [] name other e apart before = absurd cc
-not_before_more zero (first ∷ names) name other e apart before = let p : first ≡ other = cc in rw (p, apart) refl
-not_before_more (suc i) (first ∷ names) name other e apart before =
-    let parts = first_apart (bytes_eq first name) (number_among (take i names) name) before in
-    rw (parts.0, not_before_more i names name other e apart parts.1) refl
-
--- the first that is this one
-pub number_here : (i : ℕ) (names : List (List ℕ)) (name other : List ℕ) → slice_get names i ≡ Some other → bytes_eq other name ≡ true → IsNotBefore i names name → number_among names name ≡ Some i
-unfolding number_among
-number_here i [] name other e same before = absurd cc
-number_here zero (first ∷ names) name other e same before = let p : first ≡ other = cc in rw (p, same) refl
-number_here (suc i) (first ∷ names) name other e same before =
-    let parts = first_apart (bytes_eq first name) (number_among (take i names) name) before in
-    rw (parts.0, number_here i names name other e same parts.1) refl
 
 -- the same where each name is of an item
 pub item_name : {X : Type 0} (name_of : X → List ℕ) (items : List X) (i : ℕ) (item : X) → slice_get items i ≡ Some item → slice_get (map name_of items) i ≡ Some (name_of item)

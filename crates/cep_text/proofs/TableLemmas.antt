@@ -1,9 +1,7 @@
 -- A table's keys, each of which holds its name in a field that `name_of` reads.
 use Rattle.std.proofs.Common.{◌≡◌, ◌≢◌, ℕ, zero, suc, ◌+◌, Bool, true, false, cond, List, [], ◌∷◌, ◌++◌, take, map, position, slice_get, Option, Some, None, refl, ap, ◌∙◌, bytes_eq, arith}
 use Rattle.std.specs.List.{list_any, position_from}
-use Rattle.std.proofs.lemmas.List.{map-append}
 use Rattle.std.proofs.lemmas.Iterator.Adapters.{position_from-zero}
-use Rattle.indexmap.specs.IndexSet.{insert_key}
 use Rattle.cep_base.proofs.Bytes.{bytes_eq_sym}
 use Rattle.cep_rule.specs.Names.{AllDiffer}
 use Rattle.cep_text.specs.Reading.{◌>>=◌, number_among}
@@ -34,7 +32,7 @@ from_zero None = refl
 from_zero (Some number) = let p : 0 + number ≡ number = omega arith in ap Some p
 
 module _ {K : Type 0} (name_of : K → List ℕ) where
-  none_seen : (name : List ℕ) (keys : List K) → number_among (map name_of keys) name ≡ None → list_any (λ key. bytes_eq name (name_of key)) keys ≡ false
+  pub none_seen : (name : List ℕ) (keys : List K) → number_among (map name_of keys) name ≡ None → list_any (λ key. bytes_eq name (name_of key)) keys ≡ false
   unfolding number_among
   none_seen name [] e = refl
   none_seen name (key ∷ keys) e =
@@ -50,10 +48,3 @@ module _ {K : Type 0} (name_of : K → List ℕ) where
   -- the place of a key is the number of its name
   pub number_seen : (name : List ℕ) (keys : List K) → position (λ key. bytes_eq name (name_of key)) keys ≡ number_among (map name_of keys) name
   number_seen name keys = position_from-zero (λ key. bytes_eq name (name_of key)) keys ∙ from_seen name 0 keys ∙ from_zero (number_among (map name_of keys) name)
-
-  -- a new name stands at the end
-  pub name_pushed : (key : K) (keys later : List K) (name : List ℕ) (names : List (List ℕ)) → map name_of keys ≡ names → name_of key ≡ name → number_among names name ≡ None
-      → later ≡ insert_key (λ one other. bytes_eq (name_of one) (name_of other)) keys key → map name_of later ≡ names ++ name ∷ []
-  name_pushed key keys later name names is named absent inserted =
-      let new : list_any (λ other. bytes_eq (name_of key) (name_of other)) keys ≡ false = none_seen (name_of key) keys (rw (named, is) absent) in
-      rw (inserted, new, ← is, ← named) (map-append name_of keys (key ∷ []))

@@ -49,7 +49,7 @@ fn bare<'a>(
     if kinds.len() != 0 {
         return Err(Stop::Unread);
     }
-    Ok((Term::App(number, Box::new(alloc, Args::Nil)?), rest))
+    Ok((Term::app(alloc, number, Args::Nil)?, rest))
 }
 
 // A term of the type, of at most so many levels, at the front.
@@ -91,7 +91,7 @@ fn enclosed<'a>(
 {
     let (number, kinds, rest) = con(vocabulary, sort, bytes)?;
     let (args, rest) = inside(alloc, vocabulary, depth, kinds, rest)?;
-    Ok((Term::App(number, Box::new(alloc, args)?), rest))
+    Ok((Term::app(alloc, number, args)?, rest))
 }
 
 // Some arguments, and the parenthesis that ends them.
@@ -136,7 +136,7 @@ pub(crate) fn arguments<'a>(
     }
     let (first, rest) = argument(alloc, vocabulary, depth, *kinds.get(from), bytes)?;
     let (others, rest) = arguments(alloc, vocabulary, depth, kinds, from + 1, rest)?;
-    Ok((Args::Cons(first, Box::new(alloc, others)?), rest))
+    Ok((Args::cons(alloc, first, others)?, rest))
 }
 
 // An argument after its space.

@@ -4,17 +4,18 @@ ghost use Rattle.cep_text.specs.NameTables.{HoldNames};
 ghost use Rattle.cep_text.specs.Reading.{con_names, pred_names, rule_names, number_among};
 ghost use Rattle.cep_text.specs.StageNames.{IsStageNamed};
 
-use crate::name_table::NameTable;
+use crate::name_table::{fill, find};
+use cep_base::FirstNames;
 use cep_rule::{Parts, Program};
 use std::alloc::{AllocError, Global};
 use std::marker::Model;
 
 // The names of a program, by what they name.
 struct Tables {
-    cons: NameTable,
-    preds: NameTable,
-    stages: NameTable,
-    rules: NameTable,
+    cons: FirstNames<()>,
+    preds: FirstNames<()>,
+    stages: FirstNames<()>,
+    rules: FirstNames<()>,
 }
 
 // Written out: what holds one drops it by one call.
@@ -39,10 +40,10 @@ impl Tables {
         ensures { result ≡ record { cons = []; preds = []; stages = []; rules = [] } }
     {
         Tables {
-            cons: NameTable::new(alloc),
-            preds: NameTable::new(alloc),
-            stages: NameTable::new(alloc),
-            rules: NameTable::new(alloc),
+            cons: FirstNames::none(alloc),
+            preds: FirstNames::none(alloc),
+            stages: FirstNames::none(alloc),
+            rules: FirstNames::none(alloc),
         }
     }
 
@@ -53,10 +54,10 @@ impl Tables {
         ensures { OnOk result (HoldNames parts.now self.new.cons self.new.preds self.new.stages
             self.new.rules) }
     {
-        self.cons.fill(&parts.signature.cons)?;
-        self.preds.fill(&parts.signature.preds)?;
-        self.stages.fill(&parts.stages)?;
-        self.rules.fill(&parts.rules)
+        fill(&mut self.cons, &parts.signature.cons)?;
+        fill(&mut self.preds, &parts.signature.preds)?;
+        fill(&mut self.stages, &parts.stages)?;
+        fill(&mut self.rules, &parts.rules)
     }
 }
 
@@ -105,21 +106,21 @@ impl<'p> Vocabulary<'p> {
     pub(crate) fn constructor(&self, name: &[u8]) -> Option<usize>
         ensures { result ≡ number_among (con_names self.now.signature.cons) name.now }
     {
-        self.tables.cons.find(name)
+        find(&self.tables.cons, name)
     }
 
     // The number of the predicate of this name.
     pub(crate) fn predicate(&self, name: &[u8]) -> Option<usize>
         ensures { result ≡ number_among (pred_names self.now.signature.preds) name.now }
     {
-        self.tables.preds.find(name)
+        find(&self.tables.preds, name)
     }
 
     // The number of the rule of this name.
     pub(crate) fn rule(&self, name: &[u8]) -> Option<usize>
         ensures { result ≡ number_among (rule_names self.now.rules) name.now }
     {
-        self.tables.rules.find(name)
+        find(&self.tables.rules, name)
     }
 
     /// The number of the stage of this name, from 0. It takes no memory.
@@ -130,7 +131,7 @@ impl<'p> Vocabulary<'p> {
     {
         // What each program keeps is known from here on.
         self.program.parts();
-        match self.tables.stages.find(name) {
+        match find(&self.tables.stages, name) {
             Some(number) => Some(number as u32),
             None => None,
         }

@@ -1,3 +1,5 @@
+use Rattle.std.proofs.Common.{arith}
+use Rattle.std.proofs.lemmas.Grind.{common_steps}
 use Rattle.cep_rule.specs.Patterns.{clause_of}
 use Rattle.cep_text.proofs.Valued.{node_values, all_declared, clause_as_many}
 use Rattle.cep_text.proofs.derivations.begin_node.Goals as goal
@@ -9,3 +11,9 @@ put_values-requires-clause-as_many c =
 pub put_values-requires-clause-declared : goal.put_values-requires-clause-declared
 put_values-requires-clause-declared c =
     rw c.parts-parts.ensures.parts (all_declared _ _ c.args.values.now (node_values c.args.program.now c.args.number c.args.values.now (clause_of c.get-clause.result.now) c.requires (rw c.parts-parts.ensures.parts at c.get-clause.ensures)))
+
+pub returns-clause-ok : goal.returns-clause-ok
+returns-clause-ok c = grind (arith, common_steps)
+
+pub returns-clause-err : goal.returns-clause-err
+returns-clause-err c = grind (arith, common_steps)

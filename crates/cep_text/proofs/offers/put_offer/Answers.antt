@@ -1,3 +1,5 @@
+use Rattle.std.proofs.Common.{arith}
+use Rattle.std.proofs.lemmas.Grind.{common_steps}
 use Rattle.cep_text.proofs.Valued.{offer_values, all_declared, rule_as_many}
 use Rattle.cep_text.proofs.offers.put_offer.Goals as goal
 
@@ -8,3 +10,9 @@ put_values-requires-clause-as_many c =
 pub put_values-requires-clause-declared : goal.put_values-requires-clause-declared
 put_values-requires-clause-declared c =
     rw c.parts-parts.ensures.parts (all_declared _ _ c.args.offer.now.values (offer_values c.args.program.now c.args.offer.now _ c.requires (rw c.parts-parts.ensures.parts at c.get-rule.ensures)))
+
+pub returns-clause-ok : goal.returns-clause-ok
+returns-clause-ok c = grind (arith, common_steps)
+
+pub returns-clause-err : goal.returns-clause-err
+returns-clause-err c = grind (arith, common_steps)

@@ -1,3 +1,5 @@
+use Rattle.std.proofs.Common.{arith}
+use Rattle.std.proofs.lemmas.Grind.{common_steps}
 use Rattle.std.proofs.Common.{sym, ap, ◌∙◌}
 use Rattle.cep_term.specs.Tree.{tree_of, trees_of}
 use Rattle.cep_text.proofs.Fronts.{enclosed_begun}
@@ -10,3 +12,18 @@ put_value-returns-in_err-put_args-in-Cons-clause-err t c =
     c.args.out.now c.append-in-Cons.new.self c.append-in-Cons-2.new.self c.put_args.new.out _ _
     (ap tree_of c.in-App.is) c.get.ensures c.bytes-name.ensures (ap trees_of (sym c.deref.ensures ∙ c.in-Cons.is)) (ap trees_of c.deref-in-Cons.ensures)
     c.in_ok-append-in-Cons.ensures.ok c.in_ok-append-in-Cons-2.ensures.ok c.in_err-put_args-in-Cons.ensures.err
+
+pub put_args-returns-in_err-put_value-in-Cons-clause-err : goal.put_args-returns-in_err-put_value-in-Cons-clause-err
+put_args-returns-in_err-put_value-in-Cons-clause-err t c = grind (arith, common_steps)
+
+pub put_args-returns-in_ok-put_value-in-Cons-clause-ok : goal.put_args-returns-in_ok-put_value-in-Cons-clause-ok
+put_args-returns-in_ok-put_value-in-Cons-clause-ok t c = grind (arith, common_steps)
+
+pub put_args-returns-in_ok-put_value-in-Cons-clause-err : goal.put_args-returns-in_ok-put_value-in-Cons-clause-err
+put_args-returns-in_ok-put_value-in-Cons-clause-err t c = grind (arith, common_steps)
+
+pub put_value-returns-in_ok-put_args-in-Cons-clause-ok : goal.put_value-returns-in_ok-put_args-in-Cons-clause-ok
+put_value-returns-in_ok-put_args-in-Cons-clause-ok t c = grind (arith, common_steps)
+
+pub put_value-returns-in_ok-put_args-in-Cons-clause-err : goal.put_value-returns-in_ok-put_args-in-Cons-clause-err
+put_value-returns-in_ok-put_args-in-Cons-clause-err t c = grind (arith, common_steps)

@@ -1,5 +1,13 @@
+use Rattle.std.proofs.Common.{arith}
+use Rattle.std.proofs.lemmas.Grind.{common_steps}
 use Rattle.cep_text.proofs.Named.{atom_names}
 use Rattle.cep_text.proofs.terms.put_atom.Goals as goal
 
 pub put_args-requires : goal.put_args-requires
 put_args-requires c = rw c.parts.ensures.parts (atom_names _ _ _ c.requires.is_ground c.requires.typed)
+
+pub returns-clause-ok : goal.returns-clause-ok
+returns-clause-ok c = grind (arith, common_steps)
+
+pub returns-clause-err : goal.returns-clause-err
+returns-clause-err c = grind (arith, common_steps)

@@ -36,7 +36,7 @@ arguments-returns-in_err-others-clause-read t c =
 
 pub arguments-returns-clause-read : goal.arguments-returns-clause-read
 arguments-returns-clause-read t c =
-    rw (arguments_next (value_at c.args.vocabulary.now.signature.cons c.args.depth) c.args.kinds.now c.args.from c.get.result.now c.args.bytes.now c.get.ensures, c.in_ok-first.ensures.read, c.in_ok-others.ensures.read, c.in_ok-new.ensures.ok) refl
+    rw (arguments_next (value_at c.args.vocabulary.now.signature.cons c.args.depth) c.args.kinds.now c.args.from c.get.result.now c.args.bytes.now c.get.ensures, c.in_ok-first.ensures.read, c.in_ok-others.ensures.read, c.in_ok-cons.ensures) refl
 
 pub argument-returns-clause-read : goal.argument-returns-clause-read
 unfolding argument_at
