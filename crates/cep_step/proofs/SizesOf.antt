@@ -1,5 +1,5 @@
 -- The sizes of instances are those that are told from the sizes of the values, and they are bounded.
-use Rattle.std.proofs.Common.{◌≡◌, ℕ, zero, suc, ◌+◌, ◌*◌, ◌≤◌, ◌<◌, ◌^◌, List, [], ◌∷◌, ◌++◌, map, take, max, Some, None, unwrap_or, refl, ap, ◌∙◌, arith}
+use Rattle.std.proofs.Common.{◌≡◌, ℕ, zero, suc, ◌+◌, ◌*◌, ◌≤◌, List, [], ◌∷◌, ◌++◌, map, take, max, Some, None, unwrap_or, refl, ap, ◌∙◌, arith}
 use Rattle.std.specs.Prelude.{slice_index_or, slice_get}
 use Rattle.std.specs.List.{AllByRecursion}
 use Rattle.std.proofs.Math.Nat.{add-mul}
@@ -19,9 +19,6 @@ capped_sum n m = omega arith
 
 capped_max : (n m : ℕ) → max (capped n) (capped m) ≡ capped (max n m)
 capped_max n m = omega arith
-
-pub capped_low : (n : ℕ) → n < 2 ^ 64 → capped n ≡ n
-capped_low n low = omega arith
 
 -- the size of arguments together
 abbrev pub size_of_all : Trees → Size

@@ -20,8 +20,8 @@ pub fn fit_instance(alloc: Global, atom: &Atom, values: &Terms) -> Result<Option
         (¬ IsFit (full_instance values.now (atom_of atom.now)))
         (λ a. IsFit (atom_of a) × (atom_of a ≡ full_instance values.now (atom_of atom.now)))) }
 {
-    let measured = Measured::new(alloc, values)?;
-    match measured.size(atom).excess() {
+    let excess = Measured::new(alloc, values)?.size(atom).excess();
+    match excess {
         Some(_) => Ok(None),
         None => Ok(Some(instance(alloc, atom, values)?)),
     }

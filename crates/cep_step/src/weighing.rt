@@ -57,8 +57,8 @@ pub(crate) fn weigh(
 {
     steps_are_lawful();
     let signature = &parts.signature;
-    let measured = Measured::new(alloc, values)?;
-    if let Some(number) = first_too_large(&rule.right, &measured) {
+    let too_large = first_too_large(&rule.right, &Measured::new(alloc, values)?);
+    if let Some(number) = too_large {
         return Ok(Weighed::Passes(Limit::Atom, number));
     }
     let taken = taken_atoms(alloc, signature, rule, values)?;

@@ -7,13 +7,13 @@ use Rattle.cep_step.specs.Passing.{IsFirstUnfit}
 use Rattle.cep_step.specs.Sizes.{IsBeyond}
 use Rattle.cep_step.proofs.Weights.{not_all_fit}
 use Rattle.cep_step.proofs.Ready.{exact_number, in_range}
-use Rattle.cep_step.proofs.Edits.{can_weigh, taken_few, too_full, within}
+use Rattle.cep_step.proofs.Edits.{added_ground, taken_ground, can_weigh, taken_few, too_full, within}
 use Rattle.cep_step.proofs.weighing.weigh.Goals as goal
 
 pub returns-in-Some : goal.returns-in-Some
 returns-in-Some c =
     let spot : Spot = record { stage = c.args.stage; state = c.args.state.now } in
-    let first = subst (λ (values : List Tree). IsFirstUnfit IsBeyond (full_instances values c.args.rule.now.right) c.in-Some.number) c.in_ok-measured.ensures c.in-Some.ensures in (
+    let first = subst (λ (values : List Tree). IsFirstUnfit IsBeyond (full_instances values c.args.rule.now.right) c.in-Some.number) c.in_ok-new.ensures c.in-Some.ensures in (
       not_all_fit (full_instances c.args.values.now c.args.rule.now.right) c.in-Some.number first,
       λ small. exact_number c.steps_are_lawful.ensures c.args.parts.now c.args.rule.now c.args.values.now spot c.requires.ready c.in-Some.number first (small refl),
     )
@@ -22,7 +22,7 @@ pub weigh_edit-requires-clause-can : goal.weigh_edit-requires-clause-can
 weigh_edit-requires-clause-can c =
     let spot : Spot = record { stage = c.args.stage; state = c.args.state.now } in
     can_weigh c.steps_are_lawful.ensures c.args.parts.now c.args.rule.now c.args.values.now spot c.requires.ready c.in_ok-taken.taken c.in_ok-added.added c.in_ok-gains.gains c.in_ok-taken.ensures c.in_ok-added.ensures c.in_ok-gains.ensures
-    (subst (λ (values : List Tree). AllByRecursion IsFit (full_instances values c.args.rule.now.right)) c.in_ok-measured.ensures c.in_default.ensures)
+    (subst (λ (values : List Tree). AllByRecursion IsFit (full_instances values c.args.rule.now.right)) c.in_ok-new.ensures c.in_default.ensures)
 
 pub of-requires-clause-few : goal.of-requires-clause-few
 of-requires-clause-few c =
@@ -33,14 +33,14 @@ pub returns-in-TooFull : goal.returns-in-TooFull
 returns-in-TooFull c =
     let spot : Spot = record { stage = c.args.stage; state = c.args.state.now } in
     too_full c.steps_are_lawful.ensures c.args.parts.now c.args.rule.now c.args.values.now spot c.requires.ready c.in_ok-taken.taken c.in_ok-added.added c.in_ok-gains.gains c.in_ok-taken.ensures c.in_ok-added.ensures c.in_ok-gains.ensures
-    (subst (λ (values : List Tree). AllByRecursion IsFit (full_instances values c.args.rule.now.right)) c.in_ok-measured.ensures c.in_default.ensures)
+    (subst (λ (values : List Tree). AllByRecursion IsFit (full_instances values c.args.rule.now.right)) c.in_ok-new.ensures c.in_default.ensures)
     c.in-TooFull.number c.in-TooFull.ensures
 
 pub returns : goal.returns
 returns c =
     let spot : Spot = record { stage = c.args.stage; state = c.args.state.now } in
     within c.steps_are_lawful.ensures c.args.parts.now c.args.rule.now c.args.values.now spot c.requires.ready c.in_ok-taken.taken c.in_ok-added.added c.in_ok-gains.gains c.in_ok-taken.ensures c.in_ok-added.ensures c.in_ok-gains.ensures
-    (subst (λ (values : List Tree). AllByRecursion IsFit (full_instances values c.args.rule.now.right)) c.in_ok-measured.ensures c.in_default.ensures)
+    (subst (λ (values : List Tree). AllByRecursion IsFit (full_instances values c.args.rule.now.right)) c.in_ok-new.ensures c.in_default.ensures)
     c.in_ok-of-in-Fits.field-0 c.in-Fits.nodes c.unwrap_or.result c.in_ok-of-in-Fits.ensures c.unwrap_or.ensures c.in-Fits.ensures
 
 pub taken_atoms-requires : goal.taken_atoms-requires
@@ -51,3 +51,13 @@ added_atoms-requires-clause-right c = in_range c.steps_are_lawful.ensures c.args
 
 pub added_atoms-requires-clause-needed : goal.added_atoms-requires-clause-needed
 added_atoms-requires-clause-needed c = in_range c.steps_are_lawful.ensures c.args.parts.now.signature c.args.rule.now.kinds c.args.values.now c.requires.ready.are _ c.requires.ready.typed.premises
+
+pub gained-requires : goal.gained-requires
+gained-requires c =
+    let spot : Spot = record { stage = c.args.stage; state = c.args.state.now } in
+    added_ground c.steps_are_lawful.ensures c.args.parts.now c.args.rule.now c.args.values.now spot c.requires.ready c.in_ok-added.added c.in_ok-added.ensures
+
+pub of-requires-clause-known : goal.of-requires-clause-known
+of-requires-clause-known c =
+    let spot : Spot = record { stage = c.args.stage; state = c.args.state.now } in
+    taken_ground c.steps_are_lawful.ensures c.args.parts.now c.args.rule.now c.args.values.now spot c.requires.ready c.in_ok-taken.taken c.in_ok-taken.ensures
