@@ -1,11 +1,11 @@
 -- What keys read: it stays while terms are added, and a key that was added reads its tree.
-use Rattle.std.proofs.Common.{◌≡◌, ⊎_elim, ℕ, ◌+◌, ◌<◌, ◌≤◌, ◌^◌, List, [], ◌∷◌, ◌++◌, length, Some, refl, sym, ap, subst, ◌∙◌, append_assoc, length-append, append-nil, arith}
+use Rattle.std.proofs.Common.{◌≡◌, ⊎_elim, ℕ, ◌+◌, ◌<◌, ◌≤◌, ◌^◌, List, [], ◌∷◌, ◌++◌, length, Some, refl, sym, ap, subst, ◌∙◌, append_assoc, length-append, arith}
 use Rattle.std.specs.Prelude.{slice_get}
 use Rattle.std.specs.List.{AllByRecursion}
 use Rattle.std.proofs.lemmas.List.{get_or_append_left}
 use Rattle.std.proofs.lemmas.Option.{slice_get_within, get_or_from_slice_get}
 use Rattle.cep_base.proofs.Lists.{none_some, all_weaker}
-use Rattle.cep_term.specs.Tree.{Tree, Trees, AtomTree, variable, node, none, more}
+use Rattle.cep_term.specs.Tree.{Tree, Trees, AtomTree, variable, node, more}
 use Rattle.cep_store.specs.Held.{AreApart, IsFrontOf, args_by}
 use Rattle.cep_store.specs.Keys.{term_by, atom_by, terms_from, terms_by, IsKey, AreTermKeys, TakesPlace, AddsIds}
 use Rattle.cep_store.proofs.Places.{get_front, get_last, get_pushed, front_same, front_push, front_get}
@@ -131,11 +131,6 @@ args_added mid new old pushed key id t rest at front is adds =
       within = (slice_get_within new id t later, adds.within);
       are = λ i. more (get_or_from_slice_get new id t (variable 0) later i) (adds.are i);
     }
-
--- no argument
-pub args_none : (terms : List Tree) (key : List ℕ) → AddsIds terms key key none
-args_none terms [] = record { ids = []; added = refl; within = tt; are = refl }
-args_none terms (x ∷ xs) = record { ids = []; added = sym (append-nil (x ∷ xs)); within = tt; are = refl }
 
 -- a key that was begun with a head, and to which the ids of arguments were added
 module _ (keys : List (List ℕ)) (head : ℕ) (begun key : List ℕ) (args : Trees) (starts : begun ≡ head ∷ []) (adds : AddsIds (terms_by keys) begun key args) where
