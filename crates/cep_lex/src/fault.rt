@@ -1,7 +1,7 @@
 use thiserror::Error;
 
 /// Why a text has no tokens: the first fault in it, with its place in bytes from the front.
-#[derive(Clone, Copy, Debug, PartialEq, Eq, Error)]
+#[derive(Clone, Copy, Debug, Error)]
 pub enum LexFault {
     /// A byte outside comments that begins no token and separates none.
     #[error("at {at}: no token begins so")]

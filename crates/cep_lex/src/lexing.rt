@@ -10,7 +10,7 @@ use cep_base::limits::MOST_TEXT;
 use std::alloc::{AllocError, Global};
 
 // What stands at a place of a text.
-#[derive(Clone, Copy, PartialEq, Eq)]
+#[derive(Clone, Copy)]
 enum Step {
     // nothing but a gap
     End,

@@ -1,7 +1,7 @@
 use cep_base::List;
 
 /// What a token is. The spellings and the reserved words are this profile's.
-#[derive(Clone, Copy, PartialEq, Eq)]
+#[derive(Clone, Copy)]
 pub enum TokenKind {
     /// A lower-case letter and the letters, digits, `_`, `/` and `'` after it.
     Name,
@@ -37,7 +37,7 @@ pub enum TokenKind {
 }
 
 /// A token: its kind, and the bytes of the text that spell it, from a place up to another.
-#[derive(Clone, Copy, PartialEq, Eq)]
+#[derive(Clone, Copy)]
 pub struct Token {
     pub kind: TokenKind,
     pub from: u32,

@@ -8,7 +8,7 @@ use crate::token::TokenKind;
 use cep_base::limits::MOST_NAME;
 
 /// What the first byte of a token says of it.
-#[derive(Clone, Copy, PartialEq, Eq)]
+#[derive(Clone, Copy)]
 pub(crate) enum Class {
     /// A letter begins a name, a variable or a reserved word.
     Letter,
@@ -25,7 +25,7 @@ pub(crate) enum Class {
 }
 
 /// The bytes of which a run consists.
-#[derive(Clone, Copy, PartialEq, Eq)]
+#[derive(Clone, Copy)]
 pub(crate) enum RunOf {
     NameBytes,
     Digits,
