@@ -1,5 +1,5 @@
 /// The spaces of names. One name may stand in several.
-#[derive(Clone, Copy, PartialEq, Eq)]
+#[derive(Clone, Copy)]
 pub enum Space {
     Sorts,
     Constructors,

@@ -19,7 +19,11 @@ pub(crate) fn slice_at(text: &[u8], span: Span) -> &[u8]
 pub fn turns_said(text: &[u8], span: Span) -> Option<u32>
     ensures { result ≡ turns_said text.now span }
 {
-    let number = str::from_utf8(slice_at(text, span)).ok()?;
-    let turns: u32 = number.parse().ok()?;
-    (1 <= turns && turns <= MOST_TURNS).then_some(turns)
+    let Ok(number) = str::from_utf8(slice_at(text, span)) else {
+        return None;
+    };
+    match number.parse::<u32>() {
+        Ok(turns) if 1 <= turns && turns <= MOST_TURNS => Some(turns),
+        _ => None,
+    }
 }
