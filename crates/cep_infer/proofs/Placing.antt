@@ -80,20 +80,17 @@ places_more text ats i d old new pos h are is new_is =
     subst (λ (ps : List Pos). ArePlaces text (take (i + 1) ats) ps) (sym new_is)
     (subst (λ (as_ : List ℕ). ArePlaces text as_ (old ++ pos ∷ [])) (sym (take_more ats i d h)) (places_push text (take i ats) old (get_or ats i d) pos are is))
 
-lists_push : (text : List ℕ) (ats : List (List ℕ)) (lists : List (List Pos)) (some : List ℕ) (places : List Pos) → ArePlaceLists text ats lists → ArePlaces text some places → ArePlaceLists text (ats ++ some ∷ []) (lists ++ places ∷ [])
+pub lists_push : (text : List ℕ) (ats : List (List ℕ)) (lists : List (List Pos)) (some : List ℕ) (places : List Pos) → ArePlaceLists text ats lists → ArePlaces text some places → ArePlaceLists text (ats ++ some ∷ []) (lists ++ places ∷ [])
 lists_push text [] [] some places are is = (is, tt)
 lists_push text [] (p ∷ lists) some places are is = absurd are
 lists_push text (a ∷ ats) [] some places are is = absurd are
 lists_push text (a ∷ ats) (p ∷ lists) some places are is = (are.0, lists_push text ats lists some places are.1 is)
 
-pub lists_more : {X Y : Type 0} (text : List ℕ) (f : Y → List ℕ) (g : X → Y) (xs : List X) (i : ℕ) (x : X) (old new : List (List Pos)) (some : List ℕ) (places : List Pos) → i < length xs → x ≡ get_or xs i x
-    → ArePlaceLists text (map f (map g (take i xs))) old → ArePlaces text some places → some ≡ f (g x) → new ≡ old ++ places ∷ [] → ArePlaceLists text (map f (map g (take (i + 1) xs))) new
-lists_more text f g xs i x old new some places h at are is some_is new_is =
-    subst (λ (ls : List (List Pos)). ArePlaceLists text (map f (map g (take (i + 1) xs))) ls) (sym new_is)
-    (subst (λ (as_ : List (List ℕ)). ArePlaceLists text as_ (old ++ places ∷ [])) (sym items)
-    (lists_push text (map f (map g (take i xs))) old some places are is))
+pub lists_more : {X Y : Type 0} (text : List ℕ) (f : Y → List ℕ) (g : X → Y) (xs : List X) (i : ℕ) (x : X) (old new : List (List Pos)) → i < length xs → x ≡ get_or xs i x → ArePlaceLists text (map f (map g (take i xs))) old
+    → ((before : List (List ℕ)) → ArePlaceLists text before old → ArePlaceLists text (before ++ f (g x) ∷ []) new) → ArePlaceLists text (map f (map g (take (i + 1) xs))) new
+lists_more text f g xs i x old new h at are more = subst (λ (as_ : List (List ℕ)). ArePlaceLists text as_ new) (sym items) (more _ are)
   where
-    items : map f (map g (take (i + 1) xs)) ≡ map f (map g (take i xs)) ++ some ∷ []
+    items : map f (map g (take (i + 1) xs)) ≡ map f (map g (take i xs)) ++ f (g x) ∷ []
     items =
         ap (λ ys. map f (map g ys)) (take_more xs i x h) ∙ ap (map f) (map-append g (take i xs) (get_or xs i x ∷ [])) ∙ map-append f (map g (take i xs)) (g (get_or xs i x) ∷ [])
-        ∙ ap (λ y. map f (map g (take i xs)) ++ y ∷ []) (sym (some_is ∙ ap (λ z. f (g z)) at))
+        ∙ ap (λ y. map f (map g (take i xs)) ++ f (g y) ∷ []) (sym at)

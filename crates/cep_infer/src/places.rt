@@ -1,5 +1,5 @@
 // The lines and columns of many places.
-ghost use Rattle.std.specs.Prelude.{◌≡◌, ◌<◌, ◌≤◌, ◌+◌, ◌^◌, ◌++◌, ℕ, List, length, take, not, map, filter, IfOk, OnOk};
+ghost use Rattle.std.specs.Prelude.{◌≡◌, ◌<◌, ◌≤◌, ◌+◌, ◌^◌, ◌++◌, ◌∷◌, [], ℕ, List, length, take, not, map, filter, IfOk, OnOk};
 ghost use Rattle.cep_base.specs.declared.limits.TheConstants.{MOST_TEXT};
 ghost use Rattle.cep_lex.specs.Places.{IsPlaceAfter};
 ghost use Rattle.cep_source.specs.Items.{rules_of};
@@ -117,6 +117,53 @@ fn unbound_at(source: &Source, rule: &RuleRef) -> Result<Vec<u32>, AllocError>
     Ok(ats)
 }
 
+// Adds the lines and columns of places to lists.
+fn push_places(
+    source: &Source,
+    reached: &mut Reached,
+    ats: Vec<u32>,
+    lists: &mut PlaceLists,
+) -> Result<(), AllocError>
+    requires short { length source.now.text ≤ MOST_TEXT }
+    requires reached { IsReached source.now.text reached.old }
+    ensures lists { OnOk result ((before : List (List ℕ))
+        → ArePlaceLists source.now.text before lists.old
+        → ArePlaceLists source.now.text (before ++ ats.items ∷ []) lists.new) }
+    ensures reached { OnOk result (IsReached source.now.text reached.new) }
+{
+    let places = place_all(source, reached, &ats)?;
+    lists.push(places)?;
+    Ok(())
+}
+
+impl RulePlaces {
+    // Adds those of a rule.
+    fn add(
+        &mut self,
+        source: &Source,
+        reached: &mut Reached,
+        rule: &RuleRef,
+    ) -> Result<(), AllocError>
+        requires short { length source.now.text ≤ MOST_TEXT }
+        requires reached { IsReached source.now.text reached.old }
+        ensures backs { OnOk result ((before : List (List ℕ))
+            → ArePlaceLists source.now.text before self.old.backs
+            → ArePlaceLists source.now.text
+            (before ++ backs_at source.now (rule_item rule.now) ∷ []) self.new.backs) }
+        ensures unbound { OnOk result ((before : List (List ℕ))
+            → ArePlaceLists source.now.text before self.old.unbound
+            → ArePlaceLists source.now.text
+            (before ++ unbound_at source.now (rule_item rule.now) ∷ []) self.new.unbound) }
+        ensures reached { OnOk result (IsReached source.now.text reached.new) }
+    {
+        let backs = backs_at(source, rule)?;
+        push_places(source, reached, backs, &mut self.backs)?;
+        let unbound = unbound_at(source, rule)?;
+        push_places(source, reached, unbound, &mut self.unbound)?;
+        Ok(())
+    }
+}
+
 // For each rule, in written order, the places that its draft keeps.
 pub(crate) fn rule_places(source: &Source) -> Result<RulePlaces, AllocError>
     requires { length source.now.text ≤ MOST_TEXT }
@@ -128,13 +175,12 @@ pub(crate) fn rule_places(source: &Source) -> Result<RulePlaces, AllocError>
         (map (unbound_at source.now) (rules_of source.now)) places.unbound) }
 {
     let mut reached = FRONT;
-    let mut backs = PlaceLists::new(source.alloc());
-    let mut unbound = PlaceLists::new(source.alloc());
+    let mut places = RulePlaces {
+        backs: PlaceLists::new(source.alloc()),
+        unbound: PlaceLists::new(source.alloc()),
+    };
     for rule in source.rules() {
-        let back_ats = backs_at(source, rule)?;
-        backs.push(place_all(source, &mut reached, &back_ats)?)?;
-        let unbound_ats = unbound_at(source, rule)?;
-        unbound.push(place_all(source, &mut reached, &unbound_ats)?)?;
+        places.add(source, &mut reached, rule)?;
     }
-    Ok(RulePlaces { backs, unbound })
+    Ok(places)
 }

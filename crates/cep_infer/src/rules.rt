@@ -5,14 +5,19 @@ ghost use Rattle.cep_source.specs.declared.space.Space.TheVariants as space;
 ghost use Rattle.cep_source.specs.Items.{rules_of};
 ghost use Rattle.cep_source.specs.Spaces.{names_in};
 ghost use Rattle.cep_source.specs.Kept.{rule_item};
+ghost use Rattle.cep_source.specs.Met.{none_met};
+ghost use Rattle.cep_types.specs.Met.{AreMet};
+ghost use Rattle.cep_types.specs.Sites.{rule_scope};
+ghost use Rattle.cep_base.specs.FirstNames.{names_among};
+ghost use Rattle.cep_infer.specs.Built.{AreSidesBuilt};
 ghost use Rattle.cep_infer.specs.Meaning.{IsRuleBy, stage_named, group_of, next_of};
 
 use crate::atoms::read_side;
-use crate::left::read_left;
+use crate::left::{LeftSide, read_left};
 use cep_base::Name;
-use cep_parse::{RawElem, Span};
-use cep_rule::{Rule, Rules};
-use cep_source::{RuleRef, Source, Space};
+use cep_parse::{RawElem, RawRule, Span};
+use cep_rule::{AtomList, Rule, Rules};
+use cep_source::{RuleRef, Source, Space, Variables};
 use cep_types::{number, rule_variables, variable_kinds};
 use std::alloc::AllocError;
 
@@ -54,26 +59,60 @@ fn next(source: &Source, home: Option<Span>, right: &[RawElem]) -> Result<Option
     }
 }
 
+// What stands on the sides of a rule.
+#[derive(Drop)]
+struct Sides {
+    left: LeftSide,
+    right: AtomList,
+}
+
+fn read_sides(source: &Source, variables: &Variables, rule: &RawRule) -> Result<Sides, AllocError>
+    ensures { IfOk result (λ sides. AreSidesBuilt source.now
+        (names_among variables.now.firsts) rule.now sides) }
+{
+    let mut blanks = 0;
+    let left = read_left(source, variables, rule.left.as_slice(), &mut blanks)?;
+    Ok(Sides {
+        right: read_side(source, variables, rule.right.as_slice(), blanks)?,
+        left,
+    })
+}
+
+// The rule that has these variables.
+fn rule_over(
+    source: &Source,
+    variables: &Variables,
+    name: &[u8],
+    item: &RuleRef,
+) -> Result<Rule, AllocError>
+    requires { AreMet source.now (rule_scope (rule_item item.now)) none_met variables.now }
+    ensures rule { IfOk result (λ rule. IsRuleBy source.now (rule_item item.now) rule) }
+    ensures name { IfOk result (λ rule. rule.name ≡ name.now) }
+{
+    let group = group(source, item.home, item.raw.left.as_slice())?;
+    let next = next(source, item.home, item.raw.right.as_slice())?;
+    let name = Name::new(source.alloc(), name)?;
+    let vars = variables.firsts.names(source.alloc())?;
+    let kinds = variable_kinds(source, variables)?;
+    let Sides { left, right } = read_sides(source, variables, item.raw)?;
+    Ok(Rule {
+        group,
+        next,
+        name,
+        vars,
+        kinds,
+        right,
+        premises: left.premises,
+        backs: left.backs,
+    })
+}
+
 fn rule(source: &Source, name: &[u8], item: &RuleRef) -> Result<Rule, AllocError>
     ensures rule { IfOk result (λ rule. IsRuleBy source.now (rule_item item.now) rule) }
     ensures name { IfOk result (λ rule. rule.name ≡ name.now) }
 {
-    let raw = item.raw;
-    let group = group(source, item.home, raw.left.as_slice())?;
-    let next = next(source, item.home, raw.right.as_slice())?;
-    let variables = rule_variables(source, raw)?;
-    let mut blanks = 0;
-    let left = read_left(source, &variables, raw.left.as_slice(), &mut blanks)?;
-    Ok(Rule {
-        group,
-        next,
-        name: Name::new(source.alloc(), name)?,
-        vars: variables.firsts.names(source.alloc())?,
-        kinds: variable_kinds(source, &variables)?,
-        right: read_side(source, &variables, raw.right.as_slice(), blanks)?,
-        premises: left.premises,
-        backs: left.backs,
-    })
+    let variables = rule_variables(source, item.raw)?;
+    rule_over(source, &variables, name, item)
 }
 
 // The rules in written order.

@@ -6,6 +6,6 @@ use Rattle.cep_infer.proofs.places.rule_places.Given as goal
 abbrev pub invariant-loop-rule : goal.invariant-loop-rule
 invariant-loop-rule l = record {
   reached : IsReached l.source.text l.reached;
-  backs : ArePlaceLists l.source.text (map (backs_at l.source) (map rule_item (take l.rule-index l.rule-items))) l.backs;
-  unbound : ArePlaceLists l.source.text (map (unbound_at l.source) (map rule_item (take l.rule-index l.rule-items))) l.unbound;
+  backs : ArePlaceLists l.source.text (map (backs_at l.source) (map rule_item (take l.rule-index l.rule-items))) l.places.backs;
+  unbound : ArePlaceLists l.source.text (map (unbound_at l.source) (map rule_item (take l.rule-index l.rule-items))) l.places.unbound;
 }
