@@ -52,6 +52,32 @@ fn record(caller: usize, callees: &[usize], calls: &mut Vec<Call>) -> Result<(),
     Ok(())
 }
 
+// Records what a pair calls, and adds to the queue what is seen for the first time.
+fn follow(
+    alloc: Global,
+    clauses: &Clauses,
+    table: &Vec<Vec<usize>>,
+    n: usize,
+    seen: &mut [bool],
+    queue: &mut Vec<usize>,
+    calls: &mut Vec<Call>,
+) -> Result<(), AllocError>
+    requires plain { AllByRecursion (IsPlainClause 32) clauses.now }
+    requires table { IsClauseTable clauses.now 0 (map (λ numbers. numbers.items) table.now.items) }
+    requires in_range { n < length table.now.items * 256 + 1 }
+    requires callees { AllByRecursion (λ m. m < length seen.old) (callees clauses.now n) }
+    ensures calls { OnOk result (calls.new.items
+        ≡ calls.old.items ++ calls_from n (callees clauses.now n)) }
+    ensures seen { OnOk result (seen.new ≡ seen_after (callees clauses.now n) seen.old) }
+    ensures queue { OnOk result (queue.new.items
+        ≡ queue_after (callees clauses.now n) seen.old queue.old.items) }
+{
+    let callees = callees_at(alloc, clauses, table, n)?;
+    record(n, &callees, calls)?;
+    see(&callees, seen, queue)?;
+    Ok(())
+}
+
 // All calls of the pairs that are reached from these numbers.
 pub(crate) fn reached(
     alloc: Global,
@@ -76,9 +102,7 @@ pub(crate) fn reached(
     let mut done = 0;
     while done < queue.len() {
         let n = queue[done];
-        let callees = callees_at(alloc, clauses, table, n)?;
-        record(n, &callees, &mut calls)?;
-        see(&callees, seen, &mut queue)?;
+        follow(alloc, clauses, table, n, seen, &mut queue, &mut calls)?;
         done += 1;
     }
     Ok(calls)

@@ -2,7 +2,7 @@ use Rattle.std.proofs.Common.{List, ◌≡◌, ◌+◌, ◌*◌, ◌<◌, ◌≤
 use Rattle.std.specs.List.{AllByRecursion}
 use Rattle.std.proofs.lemmas.Option.{slice_get_read}
 use Rattle.cep_modes.specs.Places.{holds, callees}
-use Rattle.cep_modes.specs.Reaching.{unset, calls_from}
+use Rattle.cep_modes.specs.Reaching.{unset}
 use Rattle.cep_modes.proofs.Gathering.{start, step, each_seen, still_seen, same_total, no_shorter, closed}
 use Rattle.cep_modes.proofs.reach.reached.Goals as goal
 
@@ -25,25 +25,20 @@ loop-done-init c =
       low = omega arith;
     }
 
-pub see-requires-in-loop-done : goal.see-requires-in-loop-done
-see-requires-in-loop-done c =
-    let size : ℕ = length c.args.table.now.items * 256 + 1 in
-    let numbers : c.deref-in-loop-done.result.now ≡ callees c.args.clauses.now c.index-n.result.now = c.deref-in-loop-done.ensures.value ∙ c.in_ok-callees.ensures in
-    let P : List ℕ → Type 0 = AllByRecursion (λ m. m < size) in
-    let Q : ℕ → Type 0 = λ n. AllByRecursion (λ m. m < n) c.deref-in-loop-done.result.now in
-    subst Q (sym c.loop-done.invariant.reached.as_many) (subst P (sym numbers) (c.requires.callees c.index-n.result.now))
+pub follow-requires-clause-callees : goal.follow-requires-clause-callees
+follow-requires-clause-callees c =
+    let Q : ℕ → Type 0 = λ n. AllByRecursion (λ m. m < n) (callees c.args.clauses.now c.index-n.result.now) in
+    subst Q (sym c.loop-done.invariant.reached.as_many) (c.requires.callees c.index-n.result.now)
 
 pub loop-done-smaller : goal.loop-done-smaller
 loop-done-smaller c =
     let size : ℕ = length c.args.table.now.items * 256 + 1 in
-    let numbers : c.deref-in-loop-done.result.now ≡ callees c.args.clauses.now c.index-n.result.now = c.deref-in-loop-done.ensures.value ∙ c.in_ok-callees.ensures in
-    let P : List ℕ → Type 0 = AllByRecursion (λ m. m < size) in
-    let within : AllByRecursion (λ m. m < size) c.deref-in-loop-done.result.now = subst P (sym numbers) (c.requires.callees c.index-n.result.now) in
-    let total : unset c.see-in-loop-done.new.seen + length c.see-in-loop-done.new.queue.items ≡ unset c.loop-done.seen + length c.loop-done.queue.items =
-    same_total size c.deref-in-loop-done.result.now c.loop-done.seen c.see-in-loop-done.new.seen c.loop-done.queue.items c.see-in-loop-done.new.queue.items c.loop-done.invariant.reached.as_many within c.in_ok-see-2.ensures.seen c.in_ok-see-2.ensures.queue
+    let total : unset c.follow.new.seen + length c.follow.new.queue.items ≡ unset c.loop-done.seen + length c.loop-done.queue.items =
+    same_total size (callees c.args.clauses.now c.index-n.result.now) c.loop-done.seen c.follow.new.seen c.loop-done.queue.items c.follow.new.queue.items c.loop-done.invariant.reached.as_many (c.requires.callees c.index-n.result.now) c.in_ok-follow.ensures.seen
+    c.in_ok-follow.ensures.queue
     in
     let low : c.loop-done.done < length c.loop-done.queue.items = omega arith in
-    less (unset c.see-in-loop-done.new.seen) (length c.see-in-loop-done.new.queue.items) (unset c.loop-done.seen) (length c.loop-done.queue.items) c.loop-done.done total low
+    less (unset c.follow.new.seen) (length c.follow.new.queue.items) (unset c.loop-done.seen) (length c.loop-done.queue.items) c.loop-done.done total low
 
 pub loop-done-preserved : goal.loop-done-preserved
 loop-done-preserved c =
@@ -53,18 +48,17 @@ loop-done-preserved c =
     let at : slice_get c.loop-done.queue.items c.loop-done.done ≡ Some c.index-n.result.now =
     slice_get_read c.loop-done.queue.items (length c.loop-done.queue.items) c.loop-done.done c.index-n.result.now refl low c.index-n.ensures
     in
-    let numbers : c.deref-in-loop-done.result.now ≡ callees c.args.clauses.now c.index-n.result.now = c.deref-in-loop-done.ensures.value ∙ c.in_ok-callees.ensures in
-    let P : List ℕ → Type 0 = AllByRecursion (λ m. m < size) in
-    let within : AllByRecursion (λ m. m < size) c.deref-in-loop-done.result.now = subst P (sym numbers) (c.requires.callees c.index-n.result.now) in
-    let longer : length c.loop-done.queue.items ≤ length c.see-in-loop-done.new.queue.items =
-    no_shorter size c.deref-in-loop-done.result.now c.loop-done.seen c.see-in-loop-done.new.seen c.loop-done.queue.items c.see-in-loop-done.new.queue.items old.reached.as_many within c.in_ok-see-2.ensures.seen c.in_ok-see-2.ensures.queue
+    let called : List ℕ = callees c.args.clauses.now c.index-n.result.now in
+    let within : AllByRecursion (λ m. m < size) called = c.requires.callees c.index-n.result.now in
+    let longer : length c.loop-done.queue.items ≤ length c.follow.new.queue.items =
+    no_shorter size called c.loop-done.seen c.follow.new.seen c.loop-done.queue.items c.follow.new.queue.items old.reached.as_many within c.in_ok-follow.ensures.seen c.in_ok-follow.ensures.queue
     in
     record {
       reached =
-          step c.args.clauses.now size c.loop-done.seen c.see-in-loop-done.new.seen c.loop-done.queue.items c.see-in-loop-done.new.queue.items c.loop-done.calls.items c.record.new.calls.items c.loop-done.done c.index-n.result.now c.deref-in-loop-done.result.now
-          old.reached at numbers within (c.in_ok-record.ensures ∙ ap (λ list. c.loop-done.calls.items ++ calls_from c.index-n.result.now list) (c.deref.ensures.value ∙ sym c.deref-in-loop-done.ensures.value)) c.in_ok-see-2.ensures.seen c.in_ok-see-2.ensures.queue;
+          step c.args.clauses.now size c.loop-done.seen c.follow.new.seen c.loop-done.queue.items c.follow.new.queue.items c.loop-done.calls.items c.follow.new.calls.items c.loop-done.done c.index-n.result.now called
+          old.reached at refl within c.in_ok-follow.ensures.calls c.in_ok-follow.ensures.seen c.in_ok-follow.ensures.queue;
       first = λ n h.
-          still_seen size c.deref-in-loop-done.result.now c.loop-done.seen c.see-in-loop-done.new.seen c.loop-done.queue.items c.see-in-loop-done.new.queue.items old.reached.as_many within c.in_ok-see-2.ensures.seen c.in_ok-see-2.ensures.queue n (old.first n h);
+          still_seen size called c.loop-done.seen c.follow.new.seen c.loop-done.queue.items c.follow.new.queue.items old.reached.as_many within c.in_ok-follow.ensures.seen c.in_ok-follow.ensures.queue n (old.first n h);
       low = omega (arith, longer);
     }
 
