@@ -34,9 +34,7 @@ use Rattle.cep_ground.proofs.Wanted.{any_is, firsts_there}
 -- occurrences in two lists of nodes
 pub occurrences_both : (source : Source) (blanks : ℕ) (one other : List RawNode) → occurrences_from source blanks (one ++ other) ≡ occurrences_from source blanks one ++ occurrences_from source (blanks_after blanks one) other
 occurrences_both source blanks [] other = refl
-occurrences_both source blanks (node ∷ one) other =
-    ap (λ rest. occurrence_at source blanks node.at node.kind ++ rest) (occurrences_both source (blanks_behind blanks node.kind) one other)
-    ∙ sym (append_assoc (occurrence_at source blanks node.at node.kind) (occurrences_from source (blanks_behind blanks node.kind) one) _)
+occurrences_both source blanks (node ∷ one) other = grind (arith, append_assoc, node.at, node.kind, occurrences_both source (blanks_behind blanks node.kind) one other)
 
 -- an occurrence among nodes is the head of one of them
 occurs_at : (source : Source) (vars : List (List ℕ)) (blanks : ℕ) (shape : RawKind) (at : Span) (args : ℕ) (o : Occurrence) → Contains (occurrence_at source blanks at shape) o → var (variable_of vars o.name) ≡ head_at source vars blanks shape at args
@@ -55,8 +53,7 @@ occurs_in_nodes source vars blanks (first ∷ nodes) o there =
 
 -- so the variable occurs in the atom
 occurs_in_atom : (source : Source) (vars : List (List ℕ)) (blanks : ℕ) (raw : RawAtom) (atom : AtomTree) (o : Occurrence) → IsAtomBy source vars blanks raw atom → Contains (occurrences_from source blanks raw.nodes) o → OccursIn (variable_of vars o.name) atom
-occurs_in_atom source vars blanks raw atom o by there =
-    terms_occur atom.args (variable_of vars o.name) (subst (λ hs. Contains hs (var (variable_of vars o.name))) (sym by.heads) (occurs_in_nodes source vars blanks raw.nodes o there))
+occurs_in_atom source vars blanks raw atom o by there = grind (arith, terms_occur, occurs_in_nodes source vars blanks raw.nodes o there, atom.args, o.name, by.heads, raw.nodes)
 
 -- an occurrence among the atoms of a list is in one of them
 in_atoms : (source : Source) (vars : List (List ℕ)) (blanks : ℕ) (raws : List RawAtom) (list : List AtomTree) (o : Occurrence) → AreAtomsBy source vars blanks raws list → Contains (occurrences_from source blanks (raw_nodes raws)) o → OccursInSome (variable_of vars o.name) list

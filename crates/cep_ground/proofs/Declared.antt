@@ -89,9 +89,7 @@ module _ (source : Source) (vars : List (List ℕ)) where
   build zero [] blanks fill = record { trees = none; count = refl; heads_are = refl }
   build zero (first ∷ nodes) blanks fill = absurd fill
   build (suc terms) [] blanks fill = absurd fill
-  build (suc terms) (first ∷ nodes) blanks fill =
-      build_node first.kind first.at first.args terms blanks (heads_from source vars (blanks_behind blanks first.kind) nodes) fill.0
-      (build (first.args + terms) nodes (blanks_behind blanks first.kind) fill.1)
+  build (suc terms) (first ∷ nodes) blanks fill = grind (arith, build_node, first.kind, first.at, first.args, fill.0, build (first.args + terms) nodes (blanks_behind blanks first.kind) fill.1, fill.1)
 
   -- the atom that is written
   record HasAtom (blanks : ℕ) (raw : RawAtom) : Type 0 where

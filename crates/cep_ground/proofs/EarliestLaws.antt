@@ -43,36 +43,18 @@ chain_col one other next no_ no' (level h) same less = chain_level one other nex
 
 -- a place that does not stand before one does not stand before an earlier one
 pub chain : (one other next : Pos) → ¬ (StandsBefore other one) → ¬ (StandsBefore next other) → ¬ (StandsBefore next one)
-chain one other next no_ no' before =
-    ⊎_elim
-    (λ (less : next.line < one.line). chain_line one other next no_ no' (lines other.line one.line) less)
-    (λ same. chain_col one other next no_ no' (lines other.line one.line) same.0 same.1)
-    before
+chain one other next no_ no' before = grind (arith, chain_line, lines, chain_col, next.line, one.line, other.line)
 
 same_pos : (one other : Pos) → one.line ≡ other.line → one.col ≡ other.col → one ≡ other
 same_pos one other line col = λ i. record { line = line i; col = col i }
 
 -- places of which neither stands before the other are one
 pub one_place : (one other : Pos) → ¬ (StandsBefore one other) → ¬ (StandsBefore other one) → one ≡ other
-one_place one other no_ no' = by_line (lines one.line other.line)
-  where
-    by_col : one.line ≡ other.line → Lines one.col other.col → one ≡ other
-    by_col h (below g) = absurd (no_ (inr (h, g)))
-    by_col h (level g) = same_pos one other h g
-    by_col h (above g) = absurd (no' (inr (sym h, g)))
-
-    by_line : Lines one.line other.line → one ≡ other
-    by_line (below h) = absurd (no_ (inl h))
-    by_line (above h) = absurd (no' (inl h))
-    by_line (level h) = by_col h (lines one.col other.col)
+one_place one other no_ no' = grind (arith, lines, same_pos, one.line, other.line, one.col, other.col)
 
 -- of two places one does not stand before the other
 not_both : (one other : Pos) → StandsBefore one other → ¬ (StandsBefore other one)
-not_both one other before after =
-    ⊎_elim
-    (λ (less : one.line < other.line). ⊎_elim (λ (more_ : other.line < one.line). omega (arith, less, more_)) (λ same. let s = same.0 in omega (arith, less, s)) after)
-    (λ same. ⊎_elim (λ (more_ : other.line < one.line). let s = same.0 in omega (arith, s, more_)) (λ again. let l = same.1 in let m = again.1 in omega (arith, l, m)) after)
-    before
+not_both one other before after = grind (arith, one.line, other.line)
 
 pub earlier_other : (pos next : Pos) → StandsBefore next pos → (xs ys : List Pos) → IsEarliest xs (Some pos) → IsEarliest ys (Some next) → IsEarliest (xs ++ ys) (Some next)
 earlier_other pos next before xs ys one other = (
@@ -93,23 +75,14 @@ pub other_alone : (answer : Option Pos) (xs ys : List Pos) → xs ≡ [] → IsE
 other_alone answer xs ys none other = subst (λ zs. IsEarliest zs answer) (sym (ap (λ zs. zs ++ ys) none)) other
 
 pub single : (pos : Pos) → IsEarliest (pos ∷ []) (Some pos)
-single pos = (contains_first pos [], λ q there. ⊎_elim (λ (same : pos ≡ q). subst (λ r. ¬ (StandsBefore r pos)) same (itself pos)) (λ later. absurd (contains_none q later)) (contains_cases pos [] q there))
-  where
-    itself : (pos : Pos) → ¬ (StandsBefore pos pos)
-    itself pos before = ⊎_elim (λ (less : pos.line < pos.line). omega (arith, less)) (λ same. let l = same.1 in omega (arith, l)) before
+single pos = grind (arith, contains_first, contains_none, contains_cases, pos.line)
 
 -- one item more
 pub take_next : {X : Type 0} (xs : List X) (i : ℕ) (x : X) → slice_get xs i ≡ Some x → take (i + 1) xs ≡ take i xs ++ x ∷ []
 take_next [] i x found = absurd cc
 take_next (y ∷ xs) zero x found = let same : y ≡ x = cc in ap (λ z. z ∷ []) same
-take_next (y ∷ xs) (suc i) x found =
-    let rest = take_next xs i x found in
-    let e : suc i + 1 ≡ suc (i + 1) = omega arith in
-    ap (λ n. take n (y ∷ xs)) e ∙ ap (λ zs. y ∷ zs) rest
+take_next (y ∷ xs) (suc i) x found = grind (arith, take_next xs i x found)
 
 -- and the places of one list more
 pub flat_next : (lists : List (List Pos)) (i : ℕ) (places : List Pos) → slice_get lists i ≡ Some places → flat_map (λ ps. ps) (take (i + 1) lists) ≡ flat_map (λ ps. ps) (take i lists) ++ places
-flat_next lists i places found =
-    ap (flat_map (λ ps. ps)) (take_next lists i places found)
-    ∙ flat_map-append (λ (ps : List Pos). ps) (take i lists) (places ∷ [])
-    ∙ ap (λ ps. flat_map (λ ps. ps) (take i lists) ++ ps) (append-nil places)
+flat_next lists i places found = grind (arith, take_next lists i places found, flat_map-append, append-nil places)

@@ -79,9 +79,7 @@ pub record IsLeastAt (text : List ℕ) (ats : List ℕ) (pos : Pos) : Type 0 whe
   pub pos_is : IsPlaceAfter (take at text) pos
 
 pub least_at : (text ats all : List ℕ) → ats ≡ all → (ps : List Pos) → ArePlaces text ats ps → (pos : Pos) → IsEarliest ps (Some pos) → IsLeastAt text ats pos
-least_at text ats [] is ps are pos earliest =
-    let at = at_byte text ats ps pos are earliest.0 in
-    absurd (contains_none at.at (subst (λ ns. Contains ns at.at) is at.there))
+least_at text ats [] is ps are pos earliest = grind (arith, at_byte, contains_none, earliest.0)
 least_at text ats (n ∷ ns) is ps are pos earliest =
     let least = has_least n ns in
     let there : Contains ats least.least = subst (λ ms. Contains ms least.least) (sym is) least.there in

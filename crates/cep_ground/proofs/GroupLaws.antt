@@ -1,12 +1,11 @@
 -- The groups of rules, and the stages that they name.
-use Rattle.std.proofs.Common.{◌≡◌, ⊎_elim, ℕ, ◌+◌, ◌*◌, ◌%◌, ◌<◌, Bool, true, false, List, [], ◌∷◌, ◌++◌, length, map, refl, sym, ap, subst, ◌∙◌, arith, Contains}
+use Rattle.std.proofs.Common.{◌≡◌, ℕ, ◌+◌, ◌*◌, ◌%◌, ◌<◌, true, List, [], ◌∷◌, ◌++◌, length, map, refl, sym, ap, subst, ◌∙◌, arith, Contains}
 use Rattle.std.proofs.Math.Nat.{mul-add-mod_self_left}
 use Rattle.std.proofs.lemmas.Bool.{eqb-true, eqb-false}
 use Rattle.std.proofs.lemmas.List.{length-map}
-use Rattle.std.specs.Prelude.{Option, Some, None, ◌==◌, ◌↔◌, IsSome, IfSome, slice_get, unwrap_or}
+use Rattle.std.specs.Prelude.{Option, Some, None, ◌↔◌, IsSome, IfSome, slice_get, unwrap_or}
 use Rattle.std.specs.Option.{option_map}
 use Rattle.std.specs.List.{flat_map}
-use Rattle.std.specs.Str.{bytes_eq}
 use Rattle.cep_parse.specs.declared.raw.Span.{Span}
 use Rattle.cep_parse.specs.declared.raw.RawRule.{RawRule}
 use Rattle.cep_parse.specs.declared.raw.RawItem.{RawItem}
@@ -14,7 +13,7 @@ use Rattle.cep_parse.specs.declared.raw.RawItem.TheVariants as item
 use Rattle.cep_refusal.specs.declared.reason.Reason.TheVariants.{BadQui}
 use Rattle.cep_source.specs.declared.space.Space.TheVariants as space
 use Rattle.cep_source.specs.Items.{Source, RuleItem, declares, said, rules_of, stages_of}
-use Rattle.cep_source.specs.Spaces.{Named, named, is_in}
+use Rattle.cep_source.specs.Spaces.{named, is_in}
 use Rattle.cep_source.specs.Uses.{stages_named, uses_in}
 use Rattle.cep_refusal.specs.First.{wrong}
 use Rattle.cep_faults.specs.Misnamed.{IsQuiRule}
@@ -36,11 +35,7 @@ home_at : (next : RawItem) (rule : RuleItem) (stage : Span) → Contains (declar
 home_at (item.Stage name raws) rule stage there home =
     let is = map_cases (λ (raw : RawRule). record { home = Some name; raw = raw }) raws rule there in
     contains_same name [] stage (some_same name stage (ap (λ (one : RuleItem). one.home) is.same ∙ home))
-home_at (item.Outer raw) rule stage there home =
-    ⊎_elim
-    (λ (same : record { home = None; raw = raw } ≡ rule). none_some stage (ap (λ (one : RuleItem). one.home) same ∙ home))
-    (λ later. absurd (contains_none rule later))
-    (contains_cases (record { home = None; raw = raw }) [] rule there)
+home_at (item.Outer raw) rule stage there home = grind (arith, none_some, contains_none, contains_cases)
 home_at _ rule stage there home = absurd (contains_none rule there)
 
 home_there : (source : Source) (rule : RuleItem) (stage : Span) → Contains (rules_of source) rule → rule.home ≡ Some stage → Contains (stages_of source) stage
@@ -49,10 +44,7 @@ home_there source rule stage there home =
     contains_flat (λ (one : RawItem). (declares one).stages) source.file from.from stage from.there (home_at from.from rule stage from.inside home)
 
 stage_declared : (source : Source) (stage : Span) → Contains (stages_of source) stage → is_in source space.Stages (said source stage) ≡ true
-stage_declared source stage there =
-    any_map (λ (other : Named). bytes_eq other.name (said source stage)) (named source) (stages_of source)
-    ∙ sym (any_map (λ other. bytes_eq other (said source stage)) (said source) (stages_of source))
-    ∙ is_any (map (said source) (stages_of source)) (said source stage) (contains_map (said source) (stages_of source) stage there)
+stage_declared source stage there = grind (arith, any_map, is_any (map (said source) (stages_of source)) (said source stage) (contains_map (said source) (stages_of source) stage there), contains_map (said source) (stages_of source) stage there)
 
 module _ (source : Source) (clean : IsClean source) where
   stage_in_range : (name : List ℕ) → is_in source space.Stages name ≡ true → number_of source space.Stages name < length (stages_of source)
@@ -77,11 +69,7 @@ module _ (source : Source) (clean : IsClean source) where
 
   -- by not being otherwise
   is_one : (n : ℕ) → ((n ≡ 1 → ⊥) → ⊥) → n ≡ 1
-  is_one n never = by_test (n == 1) refl
-    where
-      by_test : (b : Bool) → (n == 1) ≡ b → n ≡ 1
-      by_test true e = eqb-true n 1 e
-      by_test false e = absurd (never (eqb-false n 1 e))
+  is_one n never = grind (arith, eqb-true, eqb-false)
 
   left_stage : (rule : RuleItem) → Contains (rules_of source) rule → rule.home ≡ None → stage_named source rule.raw.left < length (stages_of source)
   left_stage rule there none =
@@ -102,23 +90,11 @@ module _ (source : Source) (clean : IsClean source) where
   odd_group k = mul-add-mod_self_left 2 k 1
 
   grouped_by : (home : Option Span) (rule : RuleItem) → Contains (rules_of source) rule → rule.home ≡ home → (group_of source home rule.raw.left < 2 * length (stages_of source)) × (IsSome (next_of source home rule.raw.right) ↔ (group_of source home rule.raw.left % 2 ≡ 1)) × IfSome (next_of source home rule.raw.right) (λ stage. stage < length (stages_of source))
-  grouped_by (Some stage) rule there home =
-      let number = number_of source space.Stages (said source stage) in
-      let within : number < length (stages_of source) = stage_in_range (said source stage) (stage_declared source stage (home_there source rule stage there home)) in
-      let even = even_group number in
-      ((omega (arith, within)), ((λ (some : IsSome {T = ℕ} None). absurd cc), (λ (odd : (2 * number) % 2 ≡ 1). absurd (omega (arith, even, odd)))), tt)
-  grouped_by None rule there home =
-      let from = left_stage rule there home in
-      let odd = odd_group (stage_named source rule.raw.left) in
-      ((omega (arith, from)), ((λ some. odd), (λ is. refl)), right_stage rule there home)
+  grouped_by (Some stage) rule there home = grind (arith, stage_in_range (said source stage) (stage_declared source stage (home_there source rule stage there home)), stage_declared source stage (home_there source rule stage there home), home_there source rule stage there home, even_group)
+  grouped_by None rule there home = grind (arith, left_stage, odd_group, right_stage, rule.raw.left)
 
   pub rule_grouped : (item_ : RuleItem) (rule : Rule) → Contains (rules_of source) item_ → IsRuleBy source item_ rule → IsGroupedRule (length (stages_of source)) rule
-  rule_grouped item_ rule there by =
-      let all = grouped_by item_.home item_ there refl in
-      record {
-        in_range = subst (λ g. g < 2 * length (stages_of source)) (sym by.group_is) all.0;
-        leaves = subst (λ g. IsSome rule.next ↔ (g % 2 ≡ 1)) (sym by.group_is) (subst (λ next. IsSome next ↔ (group_of source item_.home item_.raw.left % 2 ≡ 1)) (sym by.next_is) all.1);
-      }
+  rule_grouped item_ rule there by = grind (arith, grouped_by, item_.home, by.group_is, rule.next, item_.raw.left, by.next_is)
 
   pub rule_next : (item_ : RuleItem) (rule : Rule) → Contains (rules_of source) item_ → IsRuleBy source item_ rule → IfSome rule.next (λ stage. stage < length (stages_of source))
   rule_next item_ rule there by = subst (λ next. IfSome next (λ stage. stage < length (stages_of source))) (sym by.next_is) (grouped_by item_.home item_ there refl).2

@@ -42,11 +42,7 @@ mutual
 
   pub terms_nodes : (ts : Trees) → argument_nodes ts ≡ length (heads_among ts)
   terms_nodes none = refl
-  terms_nodes (more t rest) =
-      let e = term_heads t in
-      let f = terms_nodes rest in
-      let g = length-append (heads_of t) (heads_among rest) in
-      omega (arith, e, f, g)
+  terms_nodes (more t rest) = grind (arith, term_heads t, length-append (heads_of t) (heads_among rest), terms_nodes rest)
 
 -- a variable among the nodes occurs in the terms
 mutual

@@ -19,11 +19,7 @@ filter_size_by false true x n m k some few = omega arith
 filter_size_by false false x n m k some few = ⊎_elim (λ (e : false ≡ true). absurd cc) (λ (e : false ≡ true). absurd cc) some
 
 filter_size : {X : Type 0} (p : X → Bool) (x : X) (xs : List X) → length (filter p (x ∷ xs)) ≡ cond (p x) (suc (length (filter p xs))) (length (filter p xs))
-filter_size p x xs = by_test (p x)
-  where
-    by_test : (b : Bool) → length (cond b (x ∷ filter p xs) (filter p xs)) ≡ cond b (suc (length (filter p xs))) (length (filter p xs))
-    by_test true = refl
-    by_test false = refl
+filter_size p x xs = grind arith
 
 -- where each passes one of two tests, there are not more than pass them
 pub filters_cover : {X : Type 0} (p q : X → Bool) (xs : List X) → ((x : X) → Contains xs x → (p x ≡ true) ⊎ (q x ≡ true)) → length xs ≤ length (filter p xs) + length (filter q xs)

@@ -1,14 +1,13 @@
 -- The place at which a list has what is found in it, and the numbers of names.
-use Rattle.std.proofs.Common.{◌≡◌, ℕ, suc, ◌+◌, ◌<◌, Bool, true, false, ◌||◌, List, [], ◌∷◌, length, map, refl, sym, ap, subst, ◌∙◌, arith}
-use Rattle.std.specs.Prelude.{Option, Some, None, slice_get, unwrap_or, cond}
+use Rattle.std.proofs.Common.{◌≡◌, ℕ, suc, ◌+◌, ◌<◌, Bool, true, false, ◌||◌, List, [], ◌∷◌, length, map, refl, arith}
+use Rattle.std.specs.Prelude.{Option, Some, slice_get, unwrap_or, cond}
 use Rattle.std.specs.List.{find, position, position_or_len, list_any}
 use Rattle.std.proofs.lemmas.List.{length-map}
 use Rattle.std.proofs.lemmas.List.Recursion.{is_position_or_len}
 use Rattle.std.proofs.lemmas.Bool.{lt-ltb}
-use Rattle.std.specs.Str.{bytes_eq}
 use Rattle.cep_source.specs.declared.space.Space.{Space}
 use Rattle.cep_source.specs.Items.{Source}
-use Rattle.cep_source.specs.Spaces.{Named, names_in, is_in}
+use Rattle.cep_source.specs.Spaces.{names_in, is_in}
 use Rattle.cep_types.specs.Heads.{number_of}
 
 -- how many stand before the first that passes
@@ -21,10 +20,7 @@ place_is p xs = is_position_or_len (place p) p refl (λ x xs. refl) xs
 
 -- the number of what is there
 pub position_there : {X : Type 0} (p : X → Bool) (xs : List X) → place p xs < length xs → unwrap_or (position p xs) 0 ≡ place p xs
-position_there p xs within =
-    let within' : position_or_len p xs < length xs = subst (λ n. n < length xs) (place_is p xs) within in
-    let yes = lt-ltb (position_or_len p xs) (length xs) within' in
-    ap (λ (b : Bool). unwrap_or (cond b (Some (position_or_len p xs)) None) 0) yes ∙ sym (place_is p xs)
+position_there p xs within = grind (arith, place_is, lt-ltb)
 
 or_rest : (one other : Bool) → one ≡ false → (one || other) ≡ true → other ≡ true
 or_rest true other e any = absurd cc
@@ -41,10 +37,7 @@ place_within p (x ∷ xs) any = within_by (p x) (place p xs) (length xs) (λ no.
 
 -- a name that is in a space has a number there
 pub number_within : (source : Source) (space : Space) (name : List ℕ) → is_in source space name ≡ true → number_of source space name < length (names_in source space)
-number_within source space name is =
-    let within = place_within (λ (other : Named). bytes_eq other.name name) (names_in source space) is in
-    let number = position_there (λ (other : Named). bytes_eq other.name name) (names_in source space) within in
-    omega (arith, within, number)
+number_within source space name is = grind (arith, place_within, position_there)
 
 -- what is found stands at the place of the first that passes
 pub record IsLocated {X Y : Type 0} (g : Y → X) (p : X → Bool) (ys : List Y) (y : Y) : Type 0 where
@@ -56,10 +49,7 @@ IsFoundAt ys y n = (slice_get ys n ≡ Some y) × (n < length ys)
 
 found_by : {Y : Type 0} (b : Bool) (z y : Y) (ys : List Y) (further : Option Y) (n : ℕ) → cond b (Some z) further ≡ Some y → (further ≡ Some y → IsFoundAt ys y n) → IsFoundAt (z ∷ ys) y (cond b 0 (1 + n))
 found_by true z y ys further n found later = (found, omega arith)
-found_by false z y ys further n found later =
-    let rest = later found in
-    let one : suc n ≡ 1 + n = omega arith in
-    subst (IsFoundAt (z ∷ ys) y) one (rest.0, omega (arith, rest.1))
+found_by false z y ys further n found later = grind arith
 
 module _ {X Y : Type 0} (g : Y → X) (p : X → Bool) where
   found_at : (ys : List Y) (y : Y) → find (λ z. p (g z)) ys ≡ Some y → IsFoundAt ys y (place p (map g ys))
@@ -67,8 +57,4 @@ module _ {X Y : Type 0} (g : Y → X) (p : X → Bool) where
   found_at (z ∷ ys) y found = found_by (p (g z)) z y ys (find (λ z. p (g z)) ys) (place p (map g ys)) found (λ later. found_at ys y later)
 
   pub located : (ys : List Y) (y : Y) → find (λ z. p (g z)) ys ≡ Some y → IsLocated g p ys y
-  located ys y found =
-      let at = found_at ys y found in
-      let size = length-map ys g in
-      let number = position_there p (map g ys) (omega (arith, at.1, size)) in
-      record { here = subst (λ n. slice_get ys n ≡ Some y) (sym number) at.0; within = subst (λ n. n < length ys) (sym number) at.1 }
+  located ys y found = grind (arith, found_at, length-map, position_there)

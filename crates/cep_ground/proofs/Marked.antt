@@ -1,5 +1,5 @@
 -- Items of lists that are marked.
-use Rattle.std.proofs.Common.{◌≡◌, ◌⊎◌, inl, inr, ⊎_elim, ℕ, zero, suc, ◌+◌, ◌-◌, ◌≤◌, Bool, true, false, List, [], ◌∷◌, ◌++◌, length, get_or, take, drop, min, ltb, refl, sym, ap, subst, ◌∙◌, arith, Contains, append_assoc, add-one}
+use Rattle.std.proofs.Common.{◌≡◌, ◌⊎◌, inl, inr, ⊎_elim, ℕ, zero, suc, ◌+◌, ◌-◌, ◌≤◌, Bool, true, false, List, [], ◌∷◌, ◌++◌, length, get_or, take, drop, min, refl, ap, subst, ◌∙◌, arith, Contains, append_assoc, add-one}
 use Rattle.std.specs.Prelude.{Some, slice_get}
 use Rattle.std.proofs.lemmas.Bool.{ltb-true, ltb-false}
 use Rattle.std.proofs.lemmas.List.{append-nil}
@@ -17,13 +17,8 @@ marked_split x xs false marks = refl
 marked_suc : {A : Type 0} (rest : List (List A)) (lists : List (List Bool)) (i : ℕ) (xs : List A) (marks : List Bool) → slice_get rest i ≡ Some xs → slice_get lists i ≡ Some marks → all_marked (take (suc i) rest) (take (suc i) lists) ≡ all_marked (take i rest) (take i lists) ++ marked_among xs marks
 marked_suc [] lists i xs marks is is' = none_some xs is
 marked_suc (ys ∷ rest) [] i xs marks is is' = none_some marks is'
-marked_suc (ys ∷ rest) (ms ∷ lists) zero xs marks is is' =
-    let one : ys ≡ xs = some_same ys xs is in
-    let other : ms ≡ marks = some_same ms marks is' in
-    append-nil (marked_among ys ms) ∙ ap (λ zs. marked_among zs ms) one ∙ ap (λ ns. marked_among xs ns) other
-marked_suc (ys ∷ rest) (ms ∷ lists) (suc i) xs marks is is' =
-    ap (λ zs. marked_among ys ms ++ zs) (marked_suc rest lists i xs marks is is')
-    ∙ sym (append_assoc (marked_among ys ms) (all_marked (take i rest) (take i lists)) (marked_among xs marks))
+marked_suc (ys ∷ rest) (ms ∷ lists) zero xs marks is is' = grind (arith, some_same, append-nil)
+marked_suc (ys ∷ rest) (ms ∷ lists) (suc i) xs marks is is' = grind (arith, append_assoc, marked_suc rest lists i xs marks is is')
 
 pub marked_next : {A : Type 0} (rest : List (List A)) (lists : List (List Bool)) (i : ℕ) (xs : List A) (marks : List Bool) → slice_get rest i ≡ Some xs → slice_get lists i ≡ Some marks → all_marked (take (i + 1) rest) (take (i + 1) lists) ≡ all_marked (take i rest) (take i lists) ++ marked_among xs marks
 marked_next rest lists i xs marks is is' = ap (λ n. all_marked (take n rest) (take n lists)) (add-one i) ∙ marked_suc rest lists i xs marks is is'
@@ -81,12 +76,8 @@ all_marked_cases (xs ∷ rest) (marks ∷ lists) x there = ⊎_elim
 pub all_marked_there : {A : Type 0} (rest : List (List A)) (lists : List (List Bool)) (x : A) (number : ℕ) (xs : List A) (marks : List Bool) (place : ℕ) → slice_get rest number ≡ Some xs → slice_get lists number ≡ Some marks → slice_get xs place ≡ Some x → slice_get marks place ≡ Some true → Contains (all_marked rest lists) x
 all_marked_there [] lists x number xs marks place is is' at at' = none_some xs is
 all_marked_there (ys ∷ rest) [] x number xs marks place is is' at at' = none_some marks is'
-all_marked_there (ys ∷ rest) (ms ∷ lists) x zero xs marks place is is' at at' =
-    let one : ys ≡ xs = some_same ys xs is in
-    let other : ms ≡ marks = some_same ms marks is' in
-    contains_left (marked_among ys ms) (all_marked rest lists) x (marked_there ys ms x place (ap (λ zs. slice_get zs place) one ∙ at) (ap (λ zs. slice_get zs place) other ∙ at'))
-all_marked_there (ys ∷ rest) (ms ∷ lists) x (suc number) xs marks place is is' at at' =
-    contains_right (marked_among ys ms) (all_marked rest lists) x (all_marked_there rest lists x number xs marks place is is' at at')
+all_marked_there (ys ∷ rest) (ms ∷ lists) x zero xs marks place is is' at at' = grind (arith, some_same, contains_left, marked_there)
+all_marked_there (ys ∷ rest) (ms ∷ lists) x (suc number) xs marks place is is' at at' = grind (arith, contains_right, all_marked_there rest lists x number xs marks place is is')
 
 take_others : {A : Type 0} (x : A) (xs : List A) → take (length (x ∷ xs) - 1) xs ≡ xs
 take_others x xs = ap (λ n. take n xs) (let e : length (x ∷ xs) - 1 ≡ length xs = omega arith in e) ∙ take-length xs
@@ -96,15 +87,8 @@ pub marked_step : {A : Type 0} (xs : List A) (marks : List Bool) (x : A) (mark :
     → marked_among (get_or xs 0 x ∷ []) (get_or marks 0 mark ∷ []) ++ marked_among (take (length xs - 1) (drop 1 xs)) (take (length marks - 1) (drop 1 marks)) ≡ marked_among xs marks
 marked_step [] marks x mark some some' = absurd (omega (arith, some))
 marked_step (y ∷ xs) [] x mark some some' = absurd (omega (arith, some'))
-marked_step (y ∷ xs) (m ∷ marks) x mark some some' =
-    ap (λ zs. marked_among (y ∷ []) (m ∷ []) ++ marked_among zs (take (length (m ∷ marks) - 1) marks)) (take_others y xs)
-    ∙ ap (λ ns. marked_among (y ∷ []) (m ∷ []) ++ marked_among xs ns) (take_others m marks)
-    ∙ sym (marked_split y xs m marks)
+marked_step (y ∷ xs) (m ∷ marks) x mark some some' = grind (arith, take_others y xs, take_others m marks, marked_split y xs m marks)
 
 -- what is no more than the lesser of two is no more than one of them
 pub lesser_within : (a b n : ℕ) → min a b ≤ n → (a ≤ n) ⊎ (b ≤ n)
-lesser_within a b n most = by (ltb b a) refl
-  where
-    by : (t : Bool) → ltb b a ≡ t → (a ≤ n) ⊎ (b ≤ n)
-    by true e = let less = ltb-true b a e in inr (omega (arith, less, most))
-    by false e = let less = ltb-false b a e in inl (omega (arith, less, most))
+lesser_within a b n most = grind (arith, ltb-true, ltb-false)

@@ -1,10 +1,10 @@
 -- The names of a text are names of a program.
-use Rattle.std.proofs.Common.{get_or, ◌≡◌, ℕ, suc, ◌+◌, ◌<◌, ◌≤◌, ◌^◌, ◌&&◌, ◌||◌, Bool, true, false, IsTrue, List, [], ◌∷◌, ◌++◌, length, map, refl, sym, ap, subst, ◌∙◌, arith, Contains, leb, not, if◌then◌else◌}
+use Rattle.std.proofs.Common.{get_or, ◌≡◌, ℕ, suc, ◌+◌, ◌<◌, ◌≤◌, ◌^◌, Bool, true, false, IsTrue, List, [], ◌∷◌, ◌++◌, length, map, refl, sym, ap, subst, ◌∙◌, arith, Contains, not, if◌then◌else◌}
 use Rattle.std.proofs.lemmas.Fmt.{decimal_is_IsNumeral, length-decimal-le}
 use Rattle.std.proofs.lemmas.Str.Parse.{digit_from_value}
 use Rattle.std.proofs.lemmas.Bool.{le-leb}
 use Rattle.std.specs.Prelude.{Option, Some, None, codes, decimal, ◌==◌}
-use Rattle.std.specs.Int.{is_in_range, IsInRange}
+use Rattle.std.specs.Int.{IsInRange}
 use Rattle.std.specs.Str.Parse.{AllDigits}
 use Rattle.std.specs.List.{AllByRecursion}
 use Rattle.cep_base.specs.Spelling.{is_name_byte}
@@ -30,13 +30,7 @@ use Rattle.cep_ground.proofs.Spelled.{name_is}
 
 -- a digit goes on with a name
 digit_goes_on : (byte : ℕ) → IsInRange 48 57 byte → is_name_byte byte ≡ true
-digit_goes_on byte is =
-    ap (λ b. ((b || is_in_range 65 90 byte) || is_in_range 97 122 byte) || byte == 95 || byte == 47 || byte == 39) (in_range (leb 48 byte) (leb byte 57) (le-leb 48 byte is.0) (le-leb byte 57 is.1))
-  where
-    in_range : (one other : Bool) → one ≡ true → other ≡ true → (one && other) ≡ true
-    in_range true true e f = refl
-    in_range true false e f = absurd cc
-    in_range false other e f = absurd cc
+digit_goes_on byte is = grind (arith, le-leb, is.0, is.1)
 
 digits_go_on : (digits : List ℕ) → AllDigits 10 digits → AllByRecursion (λ byte. IsTrue (is_name_byte byte)) digits
 digits_go_on [] all = tt

@@ -1,5 +1,5 @@
 -- A text is refused for one fault at most, and for some fault where anything is wrong with it.
-use Rattle.std.proofs.Common.{◌≡◌, ◌⊎◌, inl, inr, ⊎_elim, ℕ, zero, suc, ◌+◌, ◌*◌, ◌<◌, ◌≤◌, ◌==◌, if◌then◌else◌, List, [], ◌++◌, take, refl, sym, ap, ◌∙◌, arith, append-nil}
+use Rattle.std.proofs.Common.{◌≡◌, ◌⊎◌, ⊎_elim, ℕ, zero, suc, ◌+◌, ◌*◌, ◌<◌, ◌≤◌, ◌==◌, if◌then◌else◌, List, [], ◌++◌, take, refl, sym, ◌∙◌, arith, append-nil}
 use Rattle.std.proofs.lemmas.Bool.{cases_lt}
 use Rattle.cep_base.specs.declared.place.Pos.{Pos}
 use Rattle.cep_lex.specs.Places.{IsPlaceAfter}
@@ -74,20 +74,12 @@ one_standing p p' a a' n n' one other = grind arith
 
 -- a fault is told no later than another, or the other is of an earlier phase, or stands earlier
 told_or_not : (p p' a a' n n' : ℕ) → n ≤ 19 → n' ≤ 19 → IsBefore p p' a a' n n' ⊎ ((p' < p) ⊎ ((p' ≡ p) × (a' * 20 + n' < a * 20 + n)))
-told_or_not p p' a a' n n' within within' =
-    ⊎_elim (λ (less : p < p'). inl (inl less)) (λ (no_less : p' ≤ p).
-    ⊎_elim (λ (more : p' < p). inr (inl more)) (λ (no_more : p ≤ p').
-    ⊎_elim (λ (less : a < a'). inl (inr (omega arith, inl less))) (λ (not_less : a' ≤ a).
-    ⊎_elim (λ (more : a' < a). inr (inr (omega arith, omega arith))) (λ (not_more : a ≤ a').
-    ⊎_elim (λ (more : n' < n). inr (inr (omega arith, omega arith))) (λ (less : n ≤ n'). inl (inr (omega arith, inr (omega arith, less))))
-    (cases_lt n' n)) (cases_lt a' a)) (cases_lt a a')) (cases_lt p' p)) (cases_lt p p')
+told_or_not p p' a a' n n' within within' = grind (arith, cases_lt)
 
 -- ---- one refusal
 
 same_fault : (one other : Fault) → one.at ≡ other.at → number one.reason ≡ number other.reason → one ≡ other
-same_fault one other at numbers =
-    let reason : one.reason ≡ other.reason = sym (by_number one.reason) ∙ ap numbered numbers ∙ by_number other.reason in
-    λ i. record { reason = reason i; at = at i }
+same_fault one other at numbers = grind (arith, by_number, one.reason, other.reason)
 
 pub one_refusal : (text : List ℕ) (one other : Fault) → IsRefusedFor text one → IsRefusedFor text other → one ≡ other
 one_refusal text one other is is' =
@@ -97,14 +89,7 @@ one_refusal text one other is is' =
 -- ---- one line and column
 
 no_order : (line line' col col' : ℕ) → ¬ ((line < line') ⊎ ((line ≡ line') × (col < col'))) → ¬ ((line' < line) ⊎ ((line' ≡ line) × (col' < col))) → (line ≡ line') × (col ≡ col')
-no_order line line' col col' not_before not_after =
-    let lines : line ≡ line' =
-    ⊎_elim (λ (less : line < line'). absurd (not_before (inl less))) (λ (no_less : line' ≤ line).
-    ⊎_elim (λ (more : line' < line). absurd (not_after (inl more))) (λ (no_more : line ≤ line'). omega arith) (cases_lt line' line)) (cases_lt line line') in (
-      lines,
-      ⊎_elim (λ (less : col < col'). absurd (not_before (inr (lines, less)))) (λ (no_less : col' ≤ col).
-          ⊎_elim (λ (more : col' < col). absurd (not_after (inr (sym lines, more)))) (λ (no_more : col ≤ col'). omega arith) (cases_lt col' col)) (cases_lt col col'),
-    )
+no_order line line' col col' not_before not_after = grind (arith, cases_lt)
 
 one_place : (before : List ℕ) (one other : Pos) → IsPlaceAfter before one → IsPlaceAfter before other → one ≡ other
 one_place before one other is is' =

@@ -59,12 +59,7 @@ never_ended line byte rest ended all = ⊎_elim (λ (none : line ++ byte ∷ res
     nothing (a ∷ line) e = absurd cc
 
 one_cut : (lines bytes lines' bytes' : List ℕ) → lines ++ bytes ≡ lines' ++ bytes' → IsEnded lines → IsEnded lines' → IsUnbroken bytes → IsUnbroken bytes' → bytes ≡ bytes'
-one_cut lines bytes lines' bytes' e ended ended' all all' = by (cut lines bytes lines' bytes' e)
-  where
-    by : Cut lines bytes lines' bytes' → bytes ≡ bytes'
-    by (same e) = e
-    by (longer byte rest e f) = absurd (never_ended lines byte rest (subst IsEnded e ended') (unbroken_front (byte ∷ rest) bytes' (subst IsUnbroken f all)))
-    by (shorter byte rest e f) = absurd (never_ended lines' byte rest (subst IsEnded e ended) (unbroken_front (byte ∷ rest) bytes (subst IsUnbroken f all')))
+one_cut lines bytes lines' bytes' e ended ended' all all' = grind (arith, cut, never_ended, unbroken_front)
 
 -- whether a byte is one, as a number
 abbrev one_break : ℕ → ℕ

@@ -43,7 +43,6 @@ use Rattle.cep_types.specs.Sites.{rule_scope, clause_scope}
 use Rattle.cep_types.specs.Heads.{number_of, sorts_said}
 use Rattle.cep_infer.specs.Meaning.{con_by, pred_by, signature_of, stage_by, names_of, is_back, IsRuleBy, IsClauseBy, AreParts}
 use Rattle.cep_infer.specs.Places.{backs_at, unbound_of}
-use Rattle.cep_faults.specs.Premises.{backward_of}
 use Rattle.cep_ground.specs.Texts.{IsClean, IsBound}
 use Rattle.cep_base.proofs.Elements.{contains_first, contains_left, contains_right, contains_map, all_at, all_of}
 use Rattle.cep_ground.proofs.Limits.{at_most, nodes_few, all_filter, all_map, all_zip}
@@ -63,21 +62,12 @@ map_same f g h (x ∷ xs) same = let here = same x in let rest = map_same f g h 
 -- a number of turns that is said is one that a program may ask for
 turns_few : (digits : Bool) (turns : ℕ) → IfSome (let said : Option ℕ = if digits && (nat_le 1 turns && nat_le turns MOST_TURNS) then Some turns else None in said) IsTurnLimit
 turns_few false turns = tt
-turns_few true turns = by (nat_le 1 turns) (nat_le turns MOST_TURNS) refl refl
-  where
-    by : (some few : Bool) → nat_le 1 turns ≡ some → nat_le turns MOST_TURNS ≡ few → IfSome (let said : Option ℕ = if some && few then Some turns else None in said) IsTurnLimit
-    by false few e f = tt
-    by true false e f = tt
-    by true true e f = record { some = leb-true 1 turns e; few = leb-true turns MOST_TURNS f }
+turns_few true turns = grind (arith, leb-true)
 
 -- where each makes one at most, there are not more than of them
 flat_few : {X Y : Type 0} (f : X → List Y) (xs : List X) → ((x : X) → length (f x) ≤ 1) → length (flat_map f xs) ≤ length xs
 flat_few f [] one = omega arith
-flat_few f (x ∷ xs) one =
-    let here = one x in
-    let rest = flat_few f xs one in
-    let size = length-append (f x) (flat_map f xs) in
-    omega (arith, here, rest, size)
+flat_few f (x ∷ xs) one = grind (arith, length-append, flat_few f xs one)
 
 one_sort : (item_ : RawItem) → length (declares item_).sorts ≤ 1
 one_sort (item.Sort name) = omega arith
@@ -189,11 +179,7 @@ module _ (source : Source) (clean : IsClean source) (made : AtomsMade source) (i
 
   -- a rule has as many backward premises as are written
   pub backs_counted : (item_ : RuleItem) (rule : Rule) → Contains (rules_of source) item_ → IsRuleBy source item_ rule → length rule.backs ≡ length (backs_at source item_)
-  backs_counted item_ rule there by =
-      ap length by.backs_are
-      ∙ length-map (filter (λ (p : PremiseTree). is_back source p.atom) by.left) (λ (p : PremiseTree). p.atom)
-      ∙ back_count source clean made rule.vars 0 item_.raw.left by.left (left_here source clean made item_ there) by.left_is
-      ∙ sym (length-map (backward_of source item_.raw) (λ (atom : RawAtom). atom.name.from))
+  backs_counted item_ rule there by = grind (arith, length-map, back_count source clean made rule.vars 0 item_.raw.left by.left (left_here source clean made item_ there) by.left_is, left_here source clean made item_ there, by.backs_are, by.left, rule.vars, item_.raw.left, by.left_is, item_.raw)
 
   pub is_program : (parts : Parts) → AreParts source parts → AllByRecursion (IsGrounded parts.clauses) parts.rules → IsProgram parts
   is_program parts are grounded =

@@ -1,5 +1,5 @@
 -- For which fault a text is refused.
-use Rattle.std.proofs.Common.{◌≡◌, ◌⊎◌, inl, inr, ℕ, ◌<◌, ◌≤◌, Bool, true, false, List, [], length, refl, sym, ap, subst, ◌∙◌, arith, Contains, ltb}
+use Rattle.std.proofs.Common.{◌≡◌, ◌⊎◌, inl, inr, ℕ, ◌<◌, ◌≤◌, List, [], length, refl, sym, ap, subst, ◌∙◌, arith, Contains}
 use Rattle.std.proofs.lemmas.Bool.{ltb-true, ltb-false}
 use Rattle.std.specs.Prelude.{Result, Ok, Err, Some, slice_get}
 use Rattle.std.specs.List.{AllByRecursion}
@@ -42,11 +42,7 @@ ParsedOnce = (text : List ℕ) (tokens : List Token) (one other : Result (List R
 
 -- less or the same
 le_cases : (a b : ℕ) → a ≤ b → (a < b) ⊎ (a ≡ b)
-le_cases a b less = by (ltb a b) refl
-  where
-    by : (t : Bool) → ltb a b ≡ t → (a < b) ⊎ (a ≡ b)
-    by true e = inl (ltb-true a b e)
-    by false e = let more_ = ltb-false a b e in inr (omega (arith, less, more_))
+le_cases a b less = grind (arith, ltb-true, ltb-false)
 
 -- a fault is told no later than itself
 told_itself : (fault other : Fault) → fault ≡ other → IsToldFirst fault other
@@ -56,21 +52,7 @@ same_wrong : (reason : Reason) (one other : ℕ) (fault : Fault) → one ≡ oth
 same_wrong reason one other fault same is = ap (wrong reason) same ∙ sym is
 
 pub refused_too_long : (text : List ℕ) → MOST_TEXT < length text → IsRefusedFor text (wrong TooLong 0)
-refused_too_long text long = record { holds = too_long long refl; first = first }
-  where
-    first : (other : Fault) → IsWrong text other → IsToldFirst (wrong TooLong 0) other
-    first other (too_long long' is) = told_itself (wrong TooLong 0) other (sym is)
-    first other (bad_byte at short bad is) = absurd (omega (arith, long, short))
-    first other (name_long at short bad is) = absurd (omega (arith, long, short))
-    first other (unexpected tokens at short are bad is) = absurd (omega (arith, long, short))
-    first other (nested tokens at short are bad is) = absurd (omega (arith, long, short))
-    first other (misnamed source text_is short is_source bad) = absurd (omega (arith, long, short))
-    first other (mistyped source text_is short is_source bad) = absurd (omega (arith, long, short))
-    first other (unbound source rule o text_is short is_source there inside is) = absurd (omega (arith, long, short))
-    first other (ungrounded source at text_is clean bad is) =
-        let short = clean.short in
-        let e = ap length text_is in
-        absurd (omega (arith, long, short, e))
+refused_too_long text long = grind (arith, told_itself)
 
 module _ (lexed : LexedOnce) (text : List ℕ) where
   -- a text that has tokens has no fault of tokens
@@ -251,11 +233,7 @@ module _ (lexed : LexedOnce) (text : List ℕ) where
           contains_none o (subst (λ os. Contains os o) all (subst (λ s. Contains (unbound_of s rule) o) same inside))
 
       no_later : (reason : Reason) (at at' : ℕ) → at ≤ at' → IsNoLater (wrong reason at) (wrong reason at')
-      no_later reason at at' less = by (le_cases at at' less)
-        where
-          by : (at < at') ⊎ (at ≡ at') → IsNoLater (wrong reason at) (wrong reason at')
-          by (inl before) = inl before
-          by (inr same) = inr (same, omega arith)
+      no_later reason at at' less = grind (arith, le_cases)
 
       pub refused_unbound : (clean : IsClean source) (rule : RuleItem) (o : Occurrence) → Contains (rules_of source) rule → Contains (unbound_of source rule) o
           → ((rule' : RuleItem) (o' : Occurrence) → Contains (rules_of source) rule' → Contains (unbound_of source rule') o' → o.at.from ≤ o'.at.from)

@@ -3,7 +3,7 @@ use Rattle.std.proofs.Common.{◌≡◌, Option, ℕ, suc, ◌+◌, ◌≤◌, B
 use Rattle.std.proofs.lemmas.List.{length-map}
 use Rattle.std.proofs.lemmas.Grind.{flat_map-append}
 use Rattle.std.proofs.lemmas.Option.{slice_get-map}
-use Rattle.std.specs.Prelude.{Some, slice_get, unwrap_or, IsSomeAnd, cond}
+use Rattle.std.specs.Prelude.{Some, slice_get, unwrap_or, cond}
 use Rattle.std.specs.Option.{option_map}
 use Rattle.std.specs.Str.{bytes_eq}
 use Rattle.std.specs.List.{AllByRecursion}
@@ -15,7 +15,6 @@ use Rattle.cep_base.specs.declared.kind.PredKind.{PredKind}
 use Rattle.cep_base.specs.declared.kind.PredKind.TheVariants.{Linear, Back, Fact}
 use Rattle.cep_base.specs.Kinds.{is_backward, is_of_facts}
 use Rattle.cep_term.specs.Tree.{AtomTree, atom_nodes}
-use Rattle.cep_rule.specs.declared.signature.PredDecl.{PredDecl}
 use Rattle.cep_rule.specs.declared.rule.Rule.{Rule}
 use Rattle.cep_rule.specs.Patterns.{PremiseTree, ClauseTree}
 use Rattle.cep_rule.specs.Typing.{IsTyped, HasStatePredicate, IsBackward, is_fact}
@@ -52,8 +51,7 @@ heads_size source vars blanks [] = refl
 heads_size source vars blanks (first ∷ nodes) = ap suc (heads_size source vars (blanks_behind blanks first.kind) nodes)
 
 pub atom_size : (source : Source) (vars : List (List ℕ)) (blanks : ℕ) (raw : RawAtom) (atom : AtomTree) → IsAtomBy source vars blanks raw atom → atom_nodes atom ≡ 1 + length raw.nodes
-atom_size source vars blanks raw atom by =
-    ap (λ n. 1 + n) (terms_nodes atom.args ∙ ap length by.heads ∙ heads_size source vars blanks raw.nodes)
+atom_size source vars blanks raw atom by = grind (arith, terms_nodes, heads_size, atom.args, by.heads, raw.nodes)
 
 -- two things hold of all
 pub all_both : {X : Type 0} (P Q : X → Type 0) (xs : List X) → AllByRecursion P xs → AllByRecursion Q xs → AllByRecursion (λ x. P x × Q x) xs
@@ -106,11 +104,7 @@ module _ (source : Source) (clean : IsClean source) (atoms_made : AtomsMade sour
     pub small : atom_nodes atom ≤ 1048576
 
   judged_at : (vars : List (List ℕ)) (blanks : ℕ) (raw : RawAtom) (atom : AtomTree) (here : IsHere source raw) → IsAtomBy source vars blanks raw atom → IsJudged atom
-  judged_at vars blanks raw atom here by = record {
-    back = is_backward (pred_known source raw clean.names here.there).pred.kind;
-    of_pred = pred_at vars blanks raw atom here by;
-    small = let size = atom_size source vars blanks raw atom by in let s = nodes_short source clean atoms_made raw here in omega (arith, size, s);
-  }
+  judged_at vars blanks raw atom here by = grind (arith, pred_known source raw clean.names here.there, pred_at vars blanks raw atom here by, atom_size source vars blanks raw atom by, nodes_short source clean atoms_made raw here, clean.names, here.there)
 
   pub judged_premises : (vars : List (List ℕ)) (blanks : ℕ) (elems : List RawElem) (list : List PremiseTree) → ((raw : RawAtom) → Contains (atoms_of elems) raw → IsHere source raw) → ArePremisesBy source vars blanks elems list → AllByRecursion (λ p. IsJudged p.atom) list
   judged_premises vars blanks [] [] here by = tt
@@ -133,16 +127,10 @@ module _ (source : Source) (clean : IsClean source) (atoms_made : AtomsMade sour
   )
 
   of_state : (atom : AtomTree) (j : IsJudged atom) → is_back source atom ≡ false → HasStatePredicate (signature_of source) atom
-  of_state atom j linear =
-      let is = j.of_pred in
-      let e : is_backward is.pred.kind ≡ false = is.back_is ∙ sym is.judged ∙ linear in
-      subst (λ f. IsSomeAnd f (λ (pred : PredDecl). is_backward pred.kind ≡ false)) (sym is.found) e
+  of_state atom j linear = grind (arith, j.of_pred)
 
   backward_is : (atom : AtomTree) (j : IsJudged atom) → is_back source atom ≡ true → IsBackward (signature_of source) atom
-  backward_is atom j yes_ =
-      let is = j.of_pred in
-      let e : is_backward is.pred.kind ≡ true = is.back_is ∙ sym is.judged ∙ yes_ in
-      subst (λ f. IsSomeAnd f (λ (pred : PredDecl). is_backward pred.kind ≡ true)) (sym is.found) e
+  backward_is atom j yes_ = grind (arith, j.of_pred)
 
   -- the linear premises of those that are judged
   pub linear_part : (P : AtomTree → Type 0) (list : List PremiseTree) → AllByRecursion (λ p. P p.atom) list → AllByRecursion P (map (λ p. p.atom) (filter (λ p. not (is_back source p.atom)) list))
@@ -258,10 +246,7 @@ module _ (source : Source) (clean : IsClean source) (atoms_made : AtomsMade sour
   kept_facts vars blanks (elem.Qui span ∷ elems) list by = kept_facts vars blanks elems list by
   kept_facts vars blanks (elem.Stage span ∷ elems) list by = kept_facts vars blanks elems list by
   kept_facts vars blanks (elem.Atom kept raw ∷ elems) [] by = absurd by
-  kept_facts vars blanks (elem.Atom kept raw ∷ elems) (p ∷ list) by = (
-    (λ fact. by.0 ∙ kept_by kept (is_fact_by source p.atom) (sym (fact_by source p.atom) ∙ fact)),
-    kept_facts vars (blanks_after blanks raw.nodes) elems list by.2,
-  )
+  kept_facts vars blanks (elem.Atom kept raw ∷ elems) (p ∷ list) by = grind (arith, kept_by, fact_by, by.0, p.atom, kept_facts vars (blanks_after blanks raw.nodes) elems list by.2, raw.nodes, by.2)
 
   kinds_size : (scope : List RawAtom) → length (kinds_of source scope) ≡ length (names_of source scope)
   kinds_size scope = length-map (variables_of source scope) (λ (o : Occurrence). number_of source space.Sorts (unwrap_or (type_of source scope o.name) [])) ∙ sym (length-map (variables_of source scope) (λ (o : Occurrence). o.name))

@@ -12,7 +12,7 @@ use Rattle.cep_parse.specs.declared.raw.RawKind.TheVariants as kind
 use Rattle.cep_parse.specs.declared.raw.Span.{Span}
 use Rattle.cep_parse.specs.declared.raw.RawNode.{RawNode}
 use Rattle.cep_parse.specs.declared.raw.RawAtom.{RawAtom}
-use Rattle.cep_parse.specs.Written.{IsAtomOf, IsWrittenAt, IsTokenAt}
+use Rattle.cep_parse.specs.Written.{IsAtomOf, IsWrittenAt}
 use Rattle.cep_lex.specs.declared.token.Token.{Token}
 use Rattle.cep_lex.specs.declared.token.TokenKind.TheVariants as token
 use Rattle.cep_rule.specs.Names.{IsWord}
@@ -68,8 +68,7 @@ module _ (source : Source) (clean : IsClean source) (made : AtomsMade source) wh
     pub few : length atoms ≤ 4096
 
   node_word : (tokens : List Token) (is : IsSource source) (shape : RawKind) (at : Span) → tokens ≡ is.tokens → IsWrittenAt tokens shape at → shape ≡ kind.Var → IsWord is_ascii_uppercase (said source at)
-  node_word tokens is shape at same node var =
-      variable_word source is at (subst (λ ts. IsTokenAt ts token.Variable at) same (subst (λ k. IsWrittenAt tokens k at) var node))
+  node_word tokens is shape at same node var = grind (arith, variable_word)
 
   pub words : (atoms : List RawAtom) → AreHere atoms → AreWords source (sites_of source atoms)
   words atoms are site there var =

@@ -55,16 +55,11 @@ module _ (source : Source) (names : AreNamesClean source) (types : (fault : Faul
 
   -- as many types are wanted as there are arguments
   here_count : (raw : RawAtom) → IsHere source raw → raw.args ≡ length (pred_types source (said source raw.name))
-  here_count raw here =
-      let is = here_pred raw here in
-      is.count ∙ sym (length-map is.pred.args (said source)) ∙ sym (ap length (pred_types_are source (said source raw.name) is.pred is.found))
+  here_count raw here = grind (arith, here_pred raw here, length-map, pred_types_are, raw.name)
 
   -- each node of the atom is a term of it
   pub here_nodes : (raw : RawAtom) → IsHere source raw → nodes_at (sites_in source raw) ≡ raw.nodes
-  here_nodes raw here =
-      sites_whole source (pred_types source (said source raw.name)) raw.nodes
-      (subst (λ n. Fill n raw.nodes) (here_count raw here) here.filled)
-      (here_con raw here)
+  here_nodes raw here = grind (arith, sites_whole, here_count raw here, here_con raw here, raw.name, raw.nodes, here.filled)
 
   nodes_both : (one other : List Site) → nodes_at (one ++ other) ≡ nodes_at one ++ nodes_at other
   nodes_both [] other = refl

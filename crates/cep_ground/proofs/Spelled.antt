@@ -126,14 +126,7 @@ token_some token.KwQui word spells = one_byte word _ spells (omega arith)
 
 cuts_few : (at : ℕ) (bytes : List ℕ) (tokens : List Token) (rest : List ℕ) → Cuts at bytes tokens rest → length tokens ≤ length bytes
 cuts_few at bytes [] rest cut = omega arith
-cuts_few at bytes (one ∷ tokens) rest cut =
-    let start : StartsWith at bytes one cut.0 = cut.1 in
-    let some = token_some one.kind start.word start.split.spelled in
-    let more = cuts_few one.to cut.0 tokens rest cut.2 in
-    let e = ap length start.split.cut in
-    let f = length-append start.gap (start.word ++ cut.0) in
-    let g = length-append start.word cut.0 in
-    omega (arith, some, more, e, f, g)
+cuts_few at bytes (one ∷ tokens) rest cut = grind (arith, token_some, length-append, cut.0, cut.1, one.kind, cuts_few one.to cut.0 tokens rest cut.2, one.to, cut.2)
 
 -- there are no more tokens than bytes
 pub tokens_few : (source : Source) (is : IsSource source) → length is.tokens ≤ length source.text

@@ -1,17 +1,14 @@
 -- The start state of a text is a state that fits.
-use Rattle.std.proofs.Common.{◌≡◌, ◌≢◌, ⊎_elim, ℕ, ◌+◌, ◌<◌, ◌≤◌, Bool, true, false, ◌&&◌, ◌||◌, if◌then◌else◌, nat_lt, List, [], ◌∷◌, length, map, refl, sym, ap, subst, ◌∙◌, arith, Contains}
+use Rattle.std.proofs.Common.{◌≡◌, ⊎_elim, ℕ, ◌+◌, ◌<◌, ◌≤◌, Bool, true, false, ◌&&◌, if◌then◌else◌, nat_lt, List, [], ◌∷◌, length, refl, sym, ap, subst, ◌∙◌, arith, Contains}
 use Rattle.std.proofs.lemmas.List.Sums.{sum_by-cons}
 use Rattle.std.proofs.lemmas.List.{append-nil}
-use Rattle.std.specs.Prelude.{sum_by, IsSomeAnd, unwrap_or}
+use Rattle.std.specs.Prelude.{sum_by, IsSomeAnd}
 use Rattle.std.specs.declared.cmp.Ordering.{Ordering}
 use Rattle.std.specs.declared.cmp.Ordering.TheVariants.{Less, Equal, Greater}
-use Rattle.std.specs.Cmp.{tied_itself}
 use Rattle.std.specs.FinMap as finite
 use Rattle.std.specs.List.{AllByRecursion, list_any}
 use Rattle.std.proofs.lemmas.Bool.{ltb-true, lt-ltb}
 use Rattle.cep_term.specs.Order.{atom_cmp}
-use Rattle.cep_parse.specs.declared.raw.Span.{Span}
-use Rattle.cep_parse.specs.declared.raw.RawKind.{RawKind}
 use Rattle.cep_parse.specs.declared.raw.RawKind.TheVariants as kind
 use Rattle.cep_parse.specs.declared.raw.RawNode.{RawNode}
 use Rattle.cep_parse.specs.declared.raw.RawAtom.{RawAtom}
@@ -24,16 +21,14 @@ use Rattle.cep_rule.specs.Typing.{IsTyped, HasStatePredicate}
 use Rattle.cep_rule.specs.State.{IsStateAtom, IsState, Fits}
 use Rattle.cep_refusal.specs.declared.reason.Reason.TheVariants.{OverLimit}
 use Rattle.cep_source.specs.Items.{Source, TraceItem, traces_of}
-use Rattle.cep_parse.specs.Raw.{raw_nodes}
 use Rattle.cep_source.specs.Uses.{made_atoms, state_atoms}
 use Rattle.cep_source.specs.declared.space.Space.TheVariants as space
-use Rattle.cep_source.specs.Variables.{Occurrence, firsts, occurrences_from, blanks_behind, blanks_after}
+use Rattle.cep_source.specs.Variables.{occurrences_from, blanks_behind, blanks_after}
 use Rattle.cep_source.specs.Starts.{start_atoms, nodes_written, IsFitWritten, is_of_fact, is_written_alike, counting_behind, counting}
 use Rattle.cep_refusal.specs.First.{wrong}
 use Rattle.cep_faults.specs.Misnamed.Misnamed.{over}
 use Rattle.cep_faults.specs.Limits.IsOver.{unfit, copies, nodes}
-use Rattle.cep_types.specs.Sites.{type_of, IsScope as scopes}
-use Rattle.cep_types.specs.Heads.{number_of}
+use Rattle.cep_types.specs.Sites.{IsScope as scopes}
 use Rattle.cep_infer.specs.Heads.{IsAtomBy, AreAtomsBy}
 use Rattle.cep_infer.specs.Meaning.{signature_of, names_of, kinds_of, is_fact_by, IsStartBy}
 use Rattle.cep_infer.specs.Resolved.{IsWellNamed}
@@ -56,12 +51,7 @@ pub record StartLaws : Type 0 where
 -- without open nodes there are no variables
 no_occurrences : (source : Source) (blanks : ℕ) (nodes_ : List RawNode) → AreClosed nodes_ → occurrences_from source blanks nodes_ ≡ []
 no_occurrences source blanks [] all = refl
-no_occurrences source blanks (node ∷ nodes_) all = by_kind node.kind node.at all.0 (no_occurrences source (blanks_behind blanks node.kind) nodes_ all.1)
-  where
-    by_kind : (shape : RawKind) (at : Span) → shape ≡ kind.App → occurrences_from source (blanks_behind blanks shape) nodes_ ≡ [] → occurrences_from source blanks (record { at = at; kind = shape; args = node.args } ∷ nodes_) ≡ []
-    by_kind kind.App at is rest = rest
-    by_kind kind.Var at is rest = absurd cc
-    by_kind kind.Blank at is rest = absurd cc
+no_occurrences source blanks (node ∷ nodes_) all = grind (arith, node.kind, node.at, all.0, no_occurrences source (blanks_behind blanks node.kind) nodes_ all.1, all.1, node.args)
 
 module _ (source : Source) (clean : IsClean source) (made : AtomsMade source) (starts : StartLaws) where
   listed_closed : (raw : RawAtom) → Contains (state_atoms source) raw → AreClosed raw.nodes
@@ -78,13 +68,7 @@ module _ (source : Source) (clean : IsClean source) (made : AtomsMade source) (s
   }
 
   no_kinds : (raw : RawAtom) → Contains (state_atoms source) raw → kinds_of source (raw ∷ []) ≡ []
-  no_kinds raw listed =
-      let nodes_are : raw_nodes (raw ∷ []) ≡ raw.nodes = append-nil raw.nodes in
-      let none : occurrences_from source 0 (raw_nodes (raw ∷ [])) ≡ [] = ap (occurrences_from source 0) nodes_are ∙ no_occurrences source 0 raw.nodes (listed_closed raw listed) in
-      none_by (occurrences_from source 0 (raw_nodes (raw ∷ []))) none
-    where
-      none_by : (os : List Occurrence) → os ≡ [] → map (λ (o : Occurrence). number_of source space.Sorts (unwrap_or (type_of source (raw ∷ []) o.name) [])) (firsts os) ≡ []
-      none_by os e = rw e refl
+  no_kinds raw listed = grind (arith, append-nil raw.nodes, no_occurrences source 0 raw.nodes (listed_closed raw listed), listed_closed raw listed, raw.nodes)
 
   listed_typed : (raw : RawAtom) (blanks : ℕ) (atom : AtomTree) (listed : Contains (state_atoms source) raw) → IsAtomBy source [] blanks raw atom → IsTyped (signature_of source) [] atom
   listed_typed raw blanks atom listed by =
@@ -113,12 +97,7 @@ module _ (source : Source) (clean : IsClean source) (made : AtomsMade source) (s
       }
 
   pub listed_state_atom : (raw : RawAtom) (blanks : ℕ) (atom : AtomTree) → Contains (state_atoms source) raw → IsAtomBy source [] blanks raw atom → IsStateAtom (signature_of source) atom
-  listed_state_atom raw blanks atom listed by = record {
-    ground = starts.ground source [] blanks raw atom by (listed_closed raw listed);
-    typed = listed_typed raw blanks atom listed by;
-    of_state = listed_of_state raw blanks atom listed by;
-    fit = listed_fit raw blanks atom listed by;
-  }
+  listed_state_atom raw blanks atom listed by = grind (arith, listed_closed raw listed, listed_typed raw blanks atom listed by, listed_of_state raw blanks atom listed by, listed_fit raw blanks atom listed by, starts.ground)
 
   pub listed_state_atoms : (raws : List RawAtom) (blanks : ℕ) (list : List AtomTree) → ((raw : RawAtom) → Contains raws raw → Contains (state_atoms source) raw) → AreAtomsBy source [] blanks raws list → AllByRecursion (IsStateAtom (signature_of source)) list
   listed_state_atoms [] blanks [] all by = tt
@@ -134,26 +113,16 @@ module _ (source : Source) (clean : IsClean source) (made : AtomsMade source) (s
   module _ (laws : BagLaws) where
     -- what is there stays there
     stays : (bag : Multiset) (a x : AtomTree) (o : Ordering) → atom_cmp x a ≡ o → 0 < count_of bag x → 0 < count_of (with_one bag a) x
-    stays bag a x Less is there = let more_ = laws.others bag a x (count_of bag a + 1) (unlike a x Less is (λ e. cc)) in omega (arith, more_, there)
-      where
-        unlike : (a x : AtomTree) (o : Ordering) → atom_cmp x a ≡ o → o ≢ Equal → x ≢ a
-        unlike a x o is unequal same = unequal (sym is ∙ subst (λ y. atom_cmp x y ≡ Equal) same (tied_itself laws.total x))
+    stays bag a x Less is there = grind (arith, laws.others, laws.total)
     stays bag a x Equal is there = subst (λ y. 0 < count_of (with_one bag y) x) (laws.ties x a is) (let own = laws.own bag x (count_of bag x + 1) in omega (arith, own))
-    stays bag a x Greater is there = let more_ = laws.others bag a x (count_of bag a + 1) (unlike a x Greater is (λ e. cc)) in omega (arith, more_, there)
-      where
-        unlike : (a x : AtomTree) (o : Ordering) → atom_cmp x a ≡ o → o ≢ Equal → x ≢ a
-        unlike a x o is unequal same = unequal (sym is ∙ subst (λ y. atom_cmp x y ≡ Equal) same (tied_itself laws.total x))
+    stays bag a x Greater is there = grind (arith, laws.others, laws.total)
 
     -- Each atom that is written like one of these is there.
     abbrev AreThere : List RawAtom → Multiset → Type 0
     AreThere before bag = (raw : RawAtom) (blanks : ℕ) (atom : AtomTree) → Contains (state_atoms source) raw → IsAtomBy source [] blanks raw atom → list_any (is_written_alike source raw) before ≡ true → 0 < count_of bag atom
 
     one_more : (raw : RawAtom) (blanks : ℕ) (atom : AtomTree) (before : List RawAtom) (bag : Multiset) → Contains (state_atoms source) raw → IsAtomBy source [] blanks raw atom → 0 < count_of bag atom → AreThere before bag → AreThere (raw ∷ before) bag
-    one_more raw blanks atom before bag listed by here there other more_ x listed' by' alike = by_case (is_written_alike source other raw) refl alike
-      where
-        by_case : (b : Bool) → is_written_alike source other raw ≡ b → (b || list_any (is_written_alike source other) before) ≡ true → 0 < count_of bag x
-        by_case true is e = subst (λ y. 0 < count_of bag y) (sym (alike_atoms source other raw more_ blanks x atom is (listed_closed other listed') (listed_closed raw listed) by' by)) here
-        by_case false is e = there other more_ x listed' by' e
+    one_more raw blanks atom before bag listed by here there other more_ x listed' by' alike = grind (arith, alike_atoms, listed_closed other listed', listed_closed raw listed)
 
     -- A number of what is gained is no greater than that of what counts.
     module _ (size : AtomTree → ℕ) (width : RawAtom → ℕ) where

@@ -1,5 +1,5 @@
 -- The atoms of states: they are ground, and as deep as they are written.
-use Rattle.std.proofs.Common.{◌≡◌, ◌⊎◌, inl, inr, ⊎_elim, ℕ, ◌+◌, ◌-◌, ◌<◌, ◌≤◌, Bool, true, false, List, [], ◌∷◌, ◌++◌, refl, sym, ap, ◌∙◌, arith, append_assoc, ltb, max}
+use Rattle.std.proofs.Common.{◌≡◌, ◌⊎◌, inl, inr, ⊎_elim, ℕ, ◌+◌, ◌-◌, ◌<◌, ◌≤◌, List, [], ◌∷◌, ◌++◌, refl, sym, ap, ◌∙◌, arith, append_assoc, max}
 use Rattle.std.proofs.Math.Nat.{le-max_left, le-max_right, max-le}
 use Rattle.std.proofs.lemmas.List.{append-nil}
 use Rattle.std.proofs.lemmas.Bool.{ltb-true, ltb-false}
@@ -25,10 +25,7 @@ head_alike source vars others blanks more_ kind.Blank at args is = absurd cc
 
 pub heads_alike : (source : Source) (vars others : List (List ℕ)) (blanks more_ : ℕ) (nodes : List RawNode) → AreClosed nodes → heads_from source vars blanks nodes ≡ heads_from source others more_ nodes
 heads_alike source vars others blanks more_ [] all = refl
-heads_alike source vars others blanks more_ (first ∷ nodes) all =
-    let here = head_alike source vars others blanks more_ first.kind first.at first.args all.0 in
-    let rest = heads_alike source vars others (blanks_behind blanks first.kind) (blanks_behind more_ first.kind) nodes all.1 in
-    cc
+heads_alike source vars others blanks more_ (first ∷ nodes) all = grind (arith, head_alike, first.kind, first.at, first.args, all.0, heads_alike source vars others (blanks_behind blanks first.kind) (blanks_behind more_ first.kind) nodes all.1, all.1)
 
 pub atom_alike : (source : Source) (vars others : List (List ℕ)) (blanks more_ : ℕ) (raw : RawAtom) (atom : AtomTree) → AreClosed raw.nodes → IsAtomBy source vars blanks raw atom → IsAtomBy source others more_ raw atom
 atom_alike source vars others blanks more_ raw atom all by = record { pred = by.pred; count = by.count; heads = by.heads ∙ heads_alike source vars others blanks more_ raw.nodes all }
@@ -57,9 +54,7 @@ module _ (source : Source) (vars : List (List ℕ)) where
         → heads_of t ++ heads ≡ heads_from source vars blanks nodes → AreClosed nodes
         → (level + term_depth t ≤ 1 + greatest (levels (level ∷ next) nodes)) × IsBehind next heads (greatest (levels (level ∷ next) nodes))
     deep_term (variable v) level next heads blanks [] e all = absurd cc
-    deep_term (variable v) level next heads blanks (first ∷ nodes) e all =
-        let here : var v ≡ head_at source vars blanks first.kind first.at first.args = cc in
-        absurd (no_var blanks v first.kind first.at first.args all.0 here)
+    deep_term (variable v) level next heads blanks (first ∷ nodes) e all = grind (arith, no_var, first.kind, first.at, first.args, all.0)
     deep_term (node c args) level next heads blanks [] e all = absurd cc
     deep_term (node c args) level next heads blanks (first ∷ nodes) e all =
         let here : con c (argument_count args) ≡ head_at source vars blanks first.kind first.at first.args = cc in
@@ -111,8 +106,4 @@ raw_depth source vars blanks raw atom by all =
 
 -- what is not too great is small enough
 pub not_greater : (a b : ℕ) → (b < a → ⊥) → a ≤ b
-not_greater a b never = by_test (ltb b a) refl
-  where
-    by_test : (t : Bool) → ltb b a ≡ t → a ≤ b
-    by_test true e = absurd (never (ltb-true b a e))
-    by_test false e = ltb-false b a e
+not_greater a b never = grind (arith, ltb-true, ltb-false)

@@ -1,6 +1,6 @@
 -- Terms are of the types that are wanted of them.
 use Rattle.std.proofs.Common.{◌≡◌, ℕ, ◌+◌, List, [], ◌∷◌, ◌++◌, length, map, refl, sym, subst, ◌∙◌, arith, append_assoc}
-use Rattle.std.specs.Prelude.{Some, slice_get, IsSomeAnd, codes, decimal}
+use Rattle.std.specs.Prelude.{Some, slice_get, codes, decimal}
 use Rattle.cep_parse.specs.declared.raw.Span.{Span}
 use Rattle.cep_parse.specs.declared.raw.RawKind.{RawKind}
 use Rattle.cep_parse.specs.declared.raw.RawKind.TheVariants as kind
@@ -70,9 +70,7 @@ module _ (source : Source) (vars : List (List ℕ)) (kinds : List ℕ) (cons : L
   con_at kind.Blank at args c count blanks e = absurd cc
 
   con_typed : (c : ℕ) (args : Trees) (wants : List ℕ) (at : Span) (count : ℕ) (good : IsGoodCon wants at count) → c ≡ number_of source space.Constructors (said source at) → HaveSorts cons kinds good.con.args args → HasSort cons kinds (type_number wants) (node c args)
-  con_typed c args wants at count good number typed =
-      subst (λ n. IsSomeAnd (slice_get cons n) (λ one. (one.sort ≡ type_number wants) × HaveSorts cons kinds one.args args)) (sym number)
-      (subst (λ found. IsSomeAnd found (λ one. (one.sort ≡ type_number wants) × HaveSorts cons kinds one.args args)) (sym good.found) (good.sort, typed))
+  con_typed c args wants at count good number typed = grind (arith, good.found, good.sort)
 
   mutual
     typed_term : (t : Tree) (wants : List ℕ) (next : List (List ℕ)) (heads : List Head) (blanks : ℕ) (nodes : List RawNode)

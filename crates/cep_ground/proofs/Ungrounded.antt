@@ -38,8 +38,7 @@ all_marked_places text [] [] marks are = tt
 all_marked_places text [] (ps ∷ lists) marks are = absurd are
 all_marked_places text (xs ∷ ats) [] marks are = absurd are
 all_marked_places text (xs ∷ ats) (ps ∷ lists) [] are = tt
-all_marked_places text (xs ∷ ats) (ps ∷ lists) (ms ∷ marks) are =
-    both_places text (marked_among xs ms) (marked_among ps ms) (all_marked ats marks) (all_marked lists marks) (marked_places text xs ps ms are.0) (all_marked_places text ats lists marks are.1)
+all_marked_places text (xs ∷ ats) (ps ∷ lists) (ms ∷ marks) are = grind (arith, both_places, marked_places, are.0, all_marked_places text ats lists marks are.1, are.1)
 
 -- An item at a place of a list.
 record IsThere {A : Type 0} (xs : List A) (n : ℕ) (P : A → Type 0) : Type 0 where

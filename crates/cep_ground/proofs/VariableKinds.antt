@@ -1,5 +1,5 @@
 -- The names and the types of variables.
-use Rattle.std.proofs.Common.{◌≡◌, inr, ⊎_elim, ℕ, suc, ◌+◌, ◌<◌, ◌^◌, true, List, [], ◌∷◌, ◌++◌, length, map, refl, sym, ap, subst, ◌∙◌, arith, Contains}
+use Rattle.std.proofs.Common.{◌≡◌, ⊎_elim, ℕ, suc, ◌+◌, ◌<◌, ◌^◌, true, List, [], ◌∷◌, ◌++◌, length, map, refl, sym, ap, subst, ◌∙◌, arith, Contains}
 use Rattle.std.proofs.lemmas.List.{length-map}
 use Rattle.std.proofs.lemmas.Fmt.{length-decimal-le}
 use Rattle.std.specs.Prelude.{Option, Some, None, unwrap_or, codes, decimal}
@@ -126,10 +126,7 @@ module _ (source : Source) (clean : IsClean source) (made : AtomsMade source) wh
 
   -- a blank's name is short
   blank_name : (blanks : ℕ) → blanks < 2 ^ 63 → IsVariableName (codes "_" ++ decimal (blanks + 1))
-  blank_name blanks few = record {
-    word = inr (blanks + 1, refl);
-    short = let size = length-decimal-le 20 (blanks + 1) (omega arith) (omega arith) (omega arith) in omega (arith, size);
-  }
+  blank_name blanks few = grind (arith, length-decimal-le)
 
   name_at : (blanks : ℕ) (shape : RawKind) (at : Span) (o : Occurrence) → blanks < 2 ^ 63 → IsWrittenAt clean.is_source.tokens shape at → Contains (occurrence_at source blanks at shape) o → IsVariableName o.name
   name_at blanks kind.App at o few node there = absurd (contains_none o there)

@@ -1,5 +1,5 @@
 -- The variables of atoms and the types that are wanted of them.
-use Rattle.std.proofs.Common.{◌≡◌, ◌⊎◌, inl, inr, ⊎_elim, ℕ, suc, ◌+◌, ◌<◌, ◌≤◌, ◌^◌, Bool, true, false, ◌||◌, if◌then◌else◌, List, [], ◌∷◌, ◌++◌, length, map, refl, sym, ap, subst, ◌∙◌, arith, append_assoc, length-append, Contains}
+use Rattle.std.proofs.Common.{◌≡◌, ◌⊎◌, ⊎_elim, ℕ, suc, ◌+◌, ◌<◌, ◌≤◌, ◌^◌, Bool, true, false, ◌||◌, if◌then◌else◌, List, [], ◌∷◌, ◌++◌, length, map, refl, sym, ap, subst, ◌∙◌, arith, append_assoc, length-append, Contains}
 use Rattle.std.specs.Prelude.{Option, Some, unwrap_or, codes, decimal, cond}
 use Rattle.std.specs.Option.{option_map}
 use Rattle.std.specs.Str.{bytes_eq}
@@ -34,9 +34,7 @@ con_types_are source at con found = ap (λ (is : Option ConItem). map (said sour
 
 -- a constructor wants as many types as there are arguments, and a variable none
 types_count : (source : Source) (shape : RawKind) (at : Span) (args : ℕ) → IsCount shape args → (shape ≡ kind.App → IsConKnown source at args) → length (node_types source shape at) ≡ args
-types_count source kind.App at args count known =
-    let is = known refl in
-    ap length (con_types_are source at is.con is.found) ∙ length-map is.con.args (said source) ∙ sym is.count
+types_count source kind.App at args count known = grind (arith, con_types_are, length-map)
 types_count source kind.Var at args count known = sym count
 types_count source kind.Blank at args count known = sym count
 
@@ -54,22 +52,12 @@ sites_whole source (wants ∷ next) (first ∷ nodes) fill known =
 -- the terms of two lists of types, one after the other
 pub wanted_both : (source : Source) (blanks : ℕ) (sites others : List Site) → wanted_from source blanks (sites ++ others) ≡ wanted_from source blanks sites ++ wanted_from source (blanks_after blanks (nodes_at sites)) others
 wanted_both source blanks [] others = refl
-wanted_both source blanks (site ∷ sites) others =
-    let first = map (λ occurrence. record { name = occurrence.name; wants = site.wants }) (occurrence_at source blanks site.node.at site.node.kind) in
-    ap (λ rest. first ++ rest) (wanted_both source (blanks_behind blanks site.node.kind) sites others)
-    ∙ sym (append_assoc first (wanted_from source (blanks_behind blanks site.node.kind) sites) (wanted_from source (blanks_after (blanks_behind blanks site.node.kind) (nodes_at sites)) others))
+wanted_both source blanks (site ∷ sites) others = grind (arith, append_assoc, site.wants, site.node.at, site.node.kind, wanted_both source (blanks_behind blanks site.node.kind) sites others)
 
 -- the variables of terms are those of their nodes
 pub wanted_names : (source : Source) (blanks : ℕ) (sites : List Site) → map (λ (w : Wanted). w.name) (wanted_from source blanks sites) ≡ map (λ (o : Occurrence). o.name) (occurrences_from source blanks (nodes_at sites))
 wanted_names source blanks [] = refl
-wanted_names source blanks (site ∷ sites) = by_kind site.node.kind site.node.at (wanted_names source (blanks_behind blanks site.node.kind) sites)
-  where
-    by_kind : (kind : RawKind) (at : Span) → map (λ (w : Wanted). w.name) (wanted_from source (blanks_behind blanks kind) sites) ≡ map (λ (o : Occurrence). o.name) (occurrences_from source (blanks_behind blanks kind) (nodes_at sites))
-        → map (λ (w : Wanted). w.name) (map (λ occurrence. record { name = occurrence.name; wants = site.wants }) (occurrence_at source blanks at kind) ++ wanted_from source (blanks_behind blanks kind) sites)
-        ≡ map (λ (o : Occurrence). o.name) (occurrence_at source blanks at kind ++ occurrences_from source (blanks_behind blanks kind) (nodes_at sites))
-    by_kind kind.App at rest = rest
-    by_kind kind.Var at rest = ap (λ names. said source at ∷ names) rest
-    by_kind kind.Blank at rest = ap (λ names. (codes "_" ++ decimal (blanks + 1)) ∷ names) rest
+wanted_names source blanks (site ∷ sites) = grind (arith, site.node.kind, site.node.at, wanted_names source (blanks_behind blanks site.node.kind) sites, site.wants)
 
 -- what equal bytes say
 pub same_bytes : (xs ys : List ℕ) → bytes_eq xs ys ≡ true → xs ≡ ys
@@ -106,20 +94,8 @@ first_by : (b : Bool) (seen : List (List ℕ)) (o : Occurrence) (occurrences : L
     → (Contains (map (λ (p : Occurrence). p.name) occurrences) name → Contains seen name ⊎ Contains (map (λ (p : Occurrence). p.name) (firsts_beside seen occurrences)) name)
     → (Contains (map (λ (p : Occurrence). p.name) occurrences) name → Contains (o.name ∷ seen) name ⊎ Contains (map (λ (p : Occurrence). p.name) (firsts_beside (o.name ∷ seen) occurrences)) name)
     → Contains seen name ⊎ Contains (map (λ (p : Occurrence). p.name) (if b then firsts_beside seen occurrences else o ∷ firsts_beside (o.name ∷ seen) occurrences)) name
-first_by true seen o occurrences name is there old new =
-    ⊎_elim (λ (same : o.name ≡ name). inl (subst (Contains seen) same (any_is seen o.name is))) (λ later. old later) there
-first_by false seen o occurrences name is there old new =
-    let all = map (λ (p : Occurrence). p.name) (firsts_beside (o.name ∷ seen) occurrences) in
-    ⊎_elim
-    (λ (same : o.name ≡ name). inr (subst (Contains (o.name ∷ all)) same (contains_first o.name all)))
-    (λ later. ⊎_elim
-    (λ before. ⊎_elim
-    (λ (same : o.name ≡ name). inr (subst (Contains (o.name ∷ all)) same (contains_first o.name all)))
-    (λ seen_. inl seen_)
-    (contains_cases o.name seen name before))
-    (λ behind. inr (contains_behind o.name all name behind))
-    (new later))
-    there
+first_by true seen o occurrences name is there old new = grind (arith, any_is seen o.name is, o.name)
+first_by false seen o occurrences name is there old new = grind (arith, contains_first, contains_cases, contains_behind, o.name)
 
 pub first_there : (seen : List (List ℕ)) (occurrences : List Occurrence) (name : List ℕ) → Contains (map (λ (o : Occurrence). o.name) occurrences) name
     → Contains seen name ⊎ Contains (map (λ (o : Occurrence). o.name) (firsts_beside seen occurrences)) name
@@ -137,11 +113,7 @@ firsts_by : (b : Bool) (seen : List (List ℕ)) (o : Occurrence) (occurrences : 
     → (Contains (firsts_beside (o.name ∷ seen) occurrences) x → Contains occurrences x)
     → Contains (o ∷ occurrences) x
 firsts_by true seen o occurrences x there old new = contains_behind o occurrences x (old there)
-firsts_by false seen o occurrences x there old new =
-    ⊎_elim
-    (λ (same : o ≡ x). subst (Contains (o ∷ occurrences)) same (contains_first o occurrences))
-    (λ later. contains_behind o occurrences x (new later))
-    (contains_cases o (firsts_beside (o.name ∷ seen) occurrences) x there)
+firsts_by false seen o occurrences x there old new = grind (arith, contains_first, contains_behind, contains_cases, o.name)
 
 pub firsts_there : (seen : List (List ℕ)) (occurrences : List Occurrence) (x : Occurrence) → Contains (firsts_beside seen occurrences) x → Contains occurrences x
 firsts_there seen [] x there = there
@@ -154,19 +126,12 @@ blank_name : ℕ → List ℕ
 blank_name blanks = codes "_" ++ decimal (blanks + 1)
 
 blanks_differ : (one other : ℕ) → one < other → other + 1 < 2 ^ 64 → codes "_" ++ decimal (one + 1) ≡ codes "_" ++ decimal (other + 1) → ⊥
-blanks_differ one other less short same =
-    let digits : decimal (one + 1) ≡ decimal (other + 1) = cc in
-    let number = decimal_injective (one + 1) (other + 1) (omega arith) short digits in
-    omega (arith, number)
+blanks_differ one other less short same = grind (arith, decimal_injective)
 
 -- nor that of a variable
 word_differs : (word rest : List ℕ) → IsWord is_ascii_uppercase word → word ≡ 95 ∷ rest → ⊥
 word_differs [] rest is same = is
-word_differs (byte ∷ word) rest is same =
-    let first : byte ≡ 95 = cc in
-    let upper : is_ascii_uppercase byte ≡ true = is.0 in
-    let never : is_ascii_uppercase 95 ≡ true = subst (λ b. is_ascii_uppercase b ≡ true) first upper in
-    absurd cc
+word_differs (byte ∷ word) rest is same = grind (arith, is.0)
 
 -- A variable by its name at a place, or a blank, whose name nothing before it has.
 pub data IsFirstIn (source : Source) (blanks : ℕ) (wanted : List Wanted) (sites : List Site) (w : Wanted) : Type 0 where
@@ -174,11 +139,7 @@ pub data IsFirstIn (source : Source) (blanks : ℕ) (wanted : List Wanted) (site
   blank : (number : ℕ) → blanks ≤ number → number + 1 < 2 ^ 64 → w.name ≡ codes "_" ++ decimal (number + 1) → find (λ (v : Wanted). bytes_eq v.name w.name) wanted ≡ Some w → IsFirstIn source blanks wanted sites w
 
 not_same : (xs ys : List ℕ) → (xs ≡ ys → ⊥) → bytes_eq xs ys ≡ false
-not_same xs ys differ = by_test (bytes_eq xs ys) refl
-  where
-    by_test : (b : Bool) → bytes_eq xs ys ≡ b → b ≡ false
-    by_test true e = absurd (differ (same_bytes xs ys e))
-    by_test false e = refl
+not_same xs ys differ = grind (arith, same_bytes)
 
 find_behind : (v w : Wanted) (rest : List Wanted) → bytes_eq v.name w.name ≡ false → find (λ (x : Wanted). bytes_eq x.name w.name) rest ≡ Some w → find (λ (x : Wanted). bytes_eq x.name w.name) (v ∷ rest) ≡ Some w
 find_behind v w rest differ found = ap (λ b. cond b (Some v) (find (λ (x : Wanted). bytes_eq x.name w.name) rest)) differ ∙ found
