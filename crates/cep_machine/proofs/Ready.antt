@@ -1,26 +1,25 @@
 -- What is known of a rule with values that apply to a state.
-use Rattle.std.proofs.Common.{◌≡◌, ℕ, zero, suc, ◌<◌, List, [], ◌∷◌, length, Option, Some, None, unwrap_or, sym, ap, subst, ◌∙◌, arith}
-use Rattle.std.specs.Prelude.{slice_get, slice_index_or, IfSome}
+use Rattle.std.proofs.Common.{◌≡◌, ℕ, zero, suc, ◌<◌, List, [], ◌∷◌, length, Some, ap, subst, arith}
+use Rattle.std.specs.Prelude.{slice_get}
 use Rattle.std.specs.List.{AllByRecursion}
-use Rattle.std.proofs.lemmas.Option.{slice_get_within}
 use Rattle.cep_base.proofs.Elements.{contains_at}
-use Rattle.cep_base.proofs.Lists.{none_some, some_same}
+use Rattle.cep_base.proofs.Lists.{none_some}
 use Rattle.cep_term.specs.Tree.{Tree}
 use Rattle.cep_term.specs.Multiset.{Multiset, IsContained}
 use Rattle.cep_rule.specs.declared.rule.Rule.{Rule}
 use Rattle.cep_rule.specs.declared.parts.Parts.{Parts}
 use Rattle.cep_rule.specs.declared.offer.Offer.{Offer}
 use Rattle.cep_rule.specs.Typing.{AreValues}
-use Rattle.cep_rule.specs.Limits.{IsSmallRule}
-use Rattle.cep_rule.specs.State.{IsState, Fits}
+use Rattle.cep_rule.specs.State.{IsState}
 use Rattle.cep_rule.specs.Instances.{left_of}
-use Rattle.cep_rule.specs.Program.{IsTypedRule, IsDividedRule, IsProgram}
+use Rattle.cep_rule.specs.Program.{IsProgram}
 use Rattle.cep_rule.specs.Offers.{Applies}
 use Rattle.cep_rule.specs.Shapes.{IsSmallTerm}
 use Rattle.cep_rule.specs.Matching.{offers_of, AreListed}
+use Rattle.cep_rule.specs.Steps.{Spot}
+use Rattle.cep_step.specs.declared.weighing.Weighed.{Weighed}
 use Rattle.cep_step.specs.Changes.{CanStep}
-use Rattle.cep_machine.specs.Asking.{asked_offers}
-use Rattle.cep_machine.specs.Stepping.{IsAskedAt}
+use Rattle.cep_machine.specs.Stepping.{IsAskedAt, IsWeighedAt}
 
 -- values of offers that apply are small
 abbrev pub SmallValues : Type 0
@@ -49,14 +48,9 @@ can_step program height state offer rule applies numbered =
       contained = subst (λ (r : Rule). IsContained (left_of program.signature r offer.values) state) same applies.contained;
     }
 
--- the rule and the values that are chosen are those of the offer at the place
-pub chosen_once : (program : Parts) (lists : List (List Offer)) (stage place : ℕ) (offers : List Offer) (offer : Offer) (rule : Rule) → offers ≡ asked_offers lists stage → slice_get offers place ≡ Some offer → slice_get program.rules offer.rule ≡ Some rule → (P : Rule → List Tree → Type 0) → P rule offer.values → (other : Rule) (values : List Tree) → IsAskedAt program lists stage place other values → P other values
-chosen_once program lists stage place offers offer rule same is numbered P holds other values chosen =
-    let one : offer ≡ record { rule = chosen.number; values = values } = cc (same, is, chosen.offered) in
-    let rules : rule ≡ other = cc (one, numbered, chosen.numbered) in
-    subst (λ (r : Rule). P r values) rules (subst (P rule) (ap (λ (o : Offer). o.values) one) holds)
-
--- what holds of the group that is asked
-pub of_asked : (Q : ℕ → Type 0) (o : Option ℕ) (group : ℕ) → IfSome o Q → o ≡ Some group → Q group
-of_asked Q None group all is = none_some group is
-of_asked Q (Some other) group all is = subst Q (some_same other group is) all
+-- the rule and the values that are chosen are those of the offer that was weighed
+pub chosen_once : {program : Parts} {lists : List (List Offer)} {place : ℕ} {spot : Spot} {weighed : Weighed} (of : IsWeighedAt program lists place spot weighed) (P : Rule → List Tree → Type 0) → P of.rule of.offer.values → (rule : Rule) (values : List Tree) → IsAskedAt program lists spot.stage place rule values → P rule values
+chosen_once of P holds rule values chosen =
+    let one : of.offer ≡ record { rule = chosen.number; values = values } = cc (of.offered, chosen.offered) in
+    let rules : of.rule ≡ rule = cc (one, of.numbered, chosen.numbered) in
+    subst (λ (r : Rule). P r values) rules (subst (P of.rule) (ap (λ (o : Offer). o.values) one) holds)

@@ -1,4 +1,3 @@
 pub mod Configuration
 pub mod Asking
 pub mod Stepping
-pub mod Changing

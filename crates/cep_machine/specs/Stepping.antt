@@ -1,15 +1,20 @@
 -- What a step of a configuration comes to.
 use Rattle.std.specs.Prelude.{◌≡◌, ℕ, ◌+◌, List, Some, slice_get}
+use Rattle.std.specs.List.{AllByRecursion}
 use Rattle.cep_term.specs.Tree.{Tree}
 use Rattle.cep_rule.specs.declared.rule.Rule.{Rule}
 use Rattle.cep_rule.specs.declared.parts.Parts.{Parts}
 use Rattle.cep_rule.specs.declared.offer.Offer.{Offer}
-use Rattle.cep_rule.specs.Steps.{StepsTo}
+use Rattle.cep_rule.specs.Shapes.{IsSmallTerm}
+use Rattle.cep_rule.specs.Steps.{Spot, StepsTo}
 use Rattle.cep_rule.specs.Matching.{RoseBy}
 use Rattle.cep_machine.specs.declared.stepped.Stepped.{Stepped}
 use Rattle.cep_machine.specs.declared.stepped.Stepped.TheVariants as stepped
 use Rattle.cep_machine.specs.Configuration.{Configuration, spot_of}
 use Rattle.cep_machine.specs.Asking.{asked_offers}
+use Rattle.cep_step.specs.declared.change.Change.{Change}
+use Rattle.cep_step.specs.declared.weighing.Weighed.{Weighed}
+use Rattle.cep_step.specs.Changes.{IsChangeOf, IsWeighed}
 use Rattle.cep_step.specs.Passing.{Passes, IsExcess}
 
 -- The offer at this place among those that a stage asks is of this rule, with these values for its
@@ -40,6 +45,23 @@ IsStepped program rule values old (stepped.Passes config limit number) =
 abbrev pub config_after : {M : Type 0} → Stepped M → Configuration M
 config_after (stepped.Done config) = config
 config_after (stepped.Passes config limit number) = config
+
+-- What weighing the step by the offer at this place among those that a stage asks comes to: that of
+-- its rule with its values, which are small.
+pub record IsWeighedAt (program : Parts) (lists : List (List Offer)) (place : ℕ) (spot : Spot)
+    (weighed : Weighed) : Type 0 where
+  pub offer : Offer
+  pub rule : Rule
+  pub offered : slice_get (asked_offers lists spot.stage) place ≡ Some offer
+  pub numbered : slice_get program.rules offer.rule ≡ Some rule
+  pub small : AllByRecursion IsSmallTerm offer.values
+  pub is : IsWeighed program rule offer.values spot weighed
+
+-- The change is that of some step from the spot.
+pub record IsStepChange (program : Parts) (spot : Spot) (change : Change) : Type 0 where
+  pub rule : Rule
+  pub values : List Tree
+  pub is : IsChangeOf program rule values spot change
 
 -- How the counter rises: as is allowed where the step is done, and else not.
 abbrev pub RoseIfDone : {M : Type 0} → (ℕ → Type 0) → Stepped M → ℕ → ℕ → Type 0

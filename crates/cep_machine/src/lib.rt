@@ -7,10 +7,11 @@
 
 mod asking;
 mod beginning;
-mod changing;
 mod config;
+mod going;
 mod stepped;
 mod stepping;
+mod weighing;
 
 pub use config::Config;
 pub use stepped::Stepped;

@@ -4,7 +4,6 @@ ghost use Rattle.cep_term.specs.Tree.{Tree};
 ghost use Rattle.cep_term.specs.Multiset.{gathered};
 ghost use Rattle.cep_rule.specs.declared.rule.Rule.{Rule};
 ghost use Rattle.cep_rule.specs.Instances.{taken_by, added_by};
-ghost use Rattle.cep_rule.specs.Matching.{RoseBy};
 ghost use Rattle.cep_machine.specs.Configuration.{IsConfigurationOf};
 ghost use Rattle.cep_machine.specs.Asking.{asked_offers};
 ghost use Rattle.cep_machine.specs.Stepping.{IsAskedAt, IsStepped, config_after, RoseIfDone};
@@ -12,7 +11,6 @@ ghost use Rattle.cep_machine.specs.Stepping.{IsAskedAt, IsStepped, config_after,
 use crate::config::Config;
 use crate::stepped::Stepped;
 use cep_base::Steps;
-use cep_rule::laws::values_are_small;
 use cep_rule::{Matcher, Program};
 use cep_step::Weighed;
 use std::alloc::{AllocError, Global};
@@ -50,19 +48,14 @@ impl<M: Matcher> Config<M> {
             ≡ M.height_held self.matcher) }
         ensures never_falls { steps.old ≤ steps.new }
     {
-        values_are_small();
         let group = self.asked().unwrap();
-        let offer = self.matcher.offer(group, i);
-        let rule = program.parts().rules.get(offer.rule as usize);
-        match self.spot.weigh(alloc, program, rule, &offer.values)? {
+        match self.weigh(alloc, program, group, i)? {
             Weighed::Passes(limit, number) => Ok(Stepped::Passes {
                 config: self,
                 limit,
                 number,
             }),
-            Weighed::Within(change) => {
-                Ok(Stepped::Done(self.changed(alloc, program, &change, steps)?))
-            }
+            Weighed::Within(change) => Ok(Stepped::Done(self.go(alloc, program, &change, steps)?)),
         }
     }
 }

@@ -3,7 +3,7 @@ ghost use Rattle.cep_base.specs.declared.limits.TheConstants.{MOST_TURNS};
 ghost use Rattle.cep_rule.specs.Matching.{RoseBy};
 ghost use Rattle.cep_step.specs.Changes.{changed};
 ghost use Rattle.cep_machine.specs.Configuration.{IsConfigurationOf, spot_of};
-ghost use Rattle.cep_machine.specs.Changing.{IsStepChange};
+ghost use Rattle.cep_machine.specs.Stepping.{IsStepChange};
 
 use crate::config::Config;
 use cep_base::Steps;
@@ -13,8 +13,10 @@ use std::alloc::{AllocError, Global};
 use std::sync::ledger::Ledger;
 
 impl<M: Matcher> Config<M> {
-    // The configuration after the change of a step, with one more turn done.
-    pub(crate) fn changed<L: Ledger>(
+    /// Goes on by the change of a step from here, with one more turn done. The matcher is told of
+    /// all that the step takes and adds, kept premises included. Only out of memory is refused, and
+    /// then the configuration is gone.
+    pub fn go<L: Ledger>(
         self,
         alloc: Global,
         program: &Program,
