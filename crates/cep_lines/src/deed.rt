@@ -6,7 +6,7 @@ ghost use Rattle.cep_rule.specs.State.{IsState};
 ghost use Rattle.cep_rule.specs.Derivations.{proof_of};
 ghost use Rattle.cep_rule.specs.Shapes.{IsOfferOf, IsProofOf};
 ghost use Rattle.cep_text.specs.Writing.{IsBegun};
-ghost use Rattle.cep_lines.specs.Lines.{step_line, by_line, by_lines, next_line, expected_listing, deed_lines};
+ghost use Rattle.cep_lines.specs.Lines.{step_line, by_line, by_lines, next_line, step_lines, expected_listing, deed_lines};
 
 use crate::lines::{put_mid, put_stage};
 use crate::version::Version;
@@ -66,10 +66,10 @@ fn put_next(program: &Program, next: Option<u32>, out: &mut Text) -> Result<(), 
     }
 }
 
-// What version 2 has after the lines of the step of this number: after each hundredth the listing of
-// the state after it, and after any other nothing.
+/// What version 2 has after the lines of the step of this number: after each hundredth the listing of
+/// the state after it, and after any other nothing.
 #[tactic(auto, unfolding(crate::specs::Lines::expected_listing))]
-fn put_expected_listing(
+pub fn put_expected_listing(
     program: &Program,
     number: u32,
     state: &Bag,
@@ -88,11 +88,33 @@ fn put_expected_listing(
     }
 }
 
-/// All lines of a deed in version 2: that of its step, one for what proves each of its backward premises,
-/// in written order, that of the stage that it leads to, where it leads to another, and, after each
-/// hundredth step, the listing of the state where it leads. The number is that of the step, counted from
-/// 1, and the state is the one where it leads.
-#[tactic(auto, using(std::proofs::Common::append_assoc), unfolding(crate::specs::Lines::step_lines, crate::specs::Lines::deed_lines))]
+/// The lines of a step: its own, one for what proves each of its backward premises, in written order, and
+/// that of the stage that it leads to, where it leads to another.
+#[tactic(auto, using(std::proofs::Common::append_assoc), unfolding(crate::specs::Lines::step_lines))]
+pub fn put_step_lines(
+    program: &Program,
+    offer: &Offer,
+    proofs: &[Derivation],
+    next: Option<u32>,
+    out: &mut Text,
+) -> Result<(), AllocError>
+    requires offer { IsOfferOf program.now offer.now }
+    requires proofs { AllByRecursion (IsProofOf program.now) (map proof_of proofs.now) }
+    requires next { IfSome next (λ stage. stage < length program.now.stages) }
+    ensures ok { OnOk result (out.new
+        ≡ out.old ++ step_lines program.now offer.now (map proof_of proofs.now) next) }
+    ensures err { OnErr result (IsBegun out.old
+        (step_lines program.now offer.now (map proof_of proofs.now) next) out.new) }
+{
+    put_step(program, offer, out)?;
+    put_proofs(program, proofs, out)?;
+    put_next(program, next, out)
+}
+
+/// All lines of a deed in version 2: those of its step, and, after each hundredth step, the listing of the
+/// state where it leads. The number is that of the step, counted from 1, and the state is the one where it
+/// leads.
+#[tactic(auto, using(std::proofs::Common::append_assoc), unfolding(crate::specs::Lines::deed_lines))]
 pub fn put_deed(
     program: &Program,
     offer: &Offer,
@@ -113,8 +135,6 @@ pub fn put_deed(
         (IsBegun out.old (deed_lines program.now offer.now
         (map proof_of proofs.now) next number state.now) out.new) }
 {
-    put_step(program, offer, out)?;
-    put_proofs(program, proofs, out)?;
-    put_next(program, next, out)?;
+    put_step_lines(program, offer, proofs, next, out)?;
     put_expected_listing(program, number, state, out)
 }

@@ -8,7 +8,7 @@ mod lines;
 mod offers;
 mod version;
 
-pub use deed::{put_by, put_deed, put_step};
+pub use deed::{put_by, put_deed, put_expected_listing, put_step, put_step_lines};
 pub use end_word::EndWord;
 pub use lines::{put_end, put_have, put_mid, put_stage, put_start};
 pub use offers::{put_offer_line, put_offers};
