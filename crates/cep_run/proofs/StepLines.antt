@@ -1,10 +1,7 @@
--- What a deed says can be written, and what is told of it.
-use Rattle.std.proofs.Common.{◌≡◌, ℕ, ◌<◌, List, [], ◌∷◌, ◌++◌, length, drop, sym, ap, ◌∙◌, subst, Option}
+-- What a deed says can be written.
+use Rattle.std.proofs.Common.{◌≡◌, ℕ, ◌<◌, List, [], ◌∷◌, length, sym, subst}
 use Rattle.std.specs.Prelude.{slice_get, Some, IfSome, IsSomeAnd}
 use Rattle.std.specs.List.{AllByRecursion}
-use Rattle.cep_base.specs.declared.console.Event.{Event}
-use Rattle.cep_base.specs.Talk.{outs, Did}
-use Rattle.cep_base.proofs.Did.{did_map}
 use Rattle.cep_base.proofs.Lists.{holds_at}
 use Rattle.cep_term.specs.Tree.{AtomTree}
 use Rattle.cep_term.specs.Multiset.{Multiset}
@@ -17,10 +14,6 @@ use Rattle.cep_rule.specs.Program.{IsProgram}
 use Rattle.cep_rule.specs.Shapes.{IsOfferOf, IsProofOf}
 use Rattle.cep_rule.specs.Steps.{AreProofs}
 use Rattle.cep_rule.specs.Typing.{AreValues}
-use Rattle.cep_lines.specs.Lines.{deed_lines}
-use Rattle.cep_run.specs.Begun.{PutsFront}
-use Rattle.cep_run.specs.Turn.{TellsDeed, BeginsDeed}
-use Rattle.cep_run.proofs.Fronts.{outs_cut}
 
 -- an offer that applies has a text
 pub applied_has_text : (program : Parts) (height : ℕ) (state : Multiset) (offer : Offer) → Applies program height state offer → IsOfferOf program offer
@@ -35,18 +28,3 @@ pub all_of_shape : ((program : Parts) (proof : ProofTree) (a : AtomTree) → Pro
 all_of_shape shapes program height [] atoms are = tt
 all_of_shape shapes program height (proof ∷ proofs) [] are = absurd are
 all_of_shape shapes program height (proof ∷ proofs) (a ∷ atoms) are = (shapes program proof a are.0, all_of_shape shapes program height proofs atoms are.2)
-
--- What is told of a deed, from what is written
-
-module _ {C : Type 0} (talk : C → Option (List Event)) (left : C → Option (List ℕ)) (old new : C) (program : Parts) (offer : Offer) (proofs : List ProofTree) (number : ℕ) (state : Multiset) (rule : Rule) (numbered : slice_get program.rules offer.rule ≡ Some rule) where
-  abbrev lines : List ℕ
-  lines = deed_lines program offer proofs rule.next number state
-
-  pub deed_told : Did talk left old new (λ come events rest. (events ≡ outs lines) × (rest ≡ come)) → Did talk left old new (TellsDeed program offer proofs number state)
-  deed_told told = did_map talk left old new _ _ (λ come events rest put. record { rule = rule; numbered = numbered; written = put.0; untaken = put.1 }) told
-
-  pub deed_begun : Did talk left old new (PutsFront lines) → Did talk left old new (BeginsDeed program offer proofs number state)
-  deed_begun begun = did_map talk left old new _ _ (λ come events rest put. record {
-    more = outs (drop put.size lines);
-    tells = record { rule = rule; numbered = numbered; written = ap (λ es. es ++ outs (drop put.size lines)) put.said ∙ outs_cut put.size lines; untaken = put.untaken };
-  }) begun

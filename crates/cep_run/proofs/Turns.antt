@@ -7,25 +7,24 @@ use Rattle.std.proofs.lemmas.Option.{slice_get_within, get_or_from_slice_get}
 use Rattle.cep_base.specs.declared.limits.TheConstants.{MOST_OFFERS}
 use Rattle.cep_base.specs.declared.console.Event.{Event}
 use Rattle.cep_base.specs.Talk.{outs, Did}
-use Rattle.cep_term.specs.Tree.{Tree}
-use Rattle.cep_term.specs.Multiset.{Multiset, gathered}
+use Rattle.cep_term.specs.Multiset.{Multiset}
 use Rattle.cep_rule.specs.declared.rule.Rule.{Rule}
 use Rattle.cep_rule.specs.declared.parts.Parts.{Parts}
 use Rattle.cep_rule.specs.declared.offer.Offer.{Offer}
-use Rattle.cep_rule.specs.Instances.{full_instances, taken_by, added_by}
 use Rattle.cep_rule.specs.Offers.{Applies, AreOffers, IsOffer}
 use Rattle.cep_rule.specs.Stages.{IsAsked}
-use Rattle.cep_rule.specs.Steps.{AreProofs}
+use Rattle.cep_rule.specs.Steps.{StepsTo}
 use Rattle.cep_rule.specs.Typing.{AreValues}
 use Rattle.cep_rule.specs.Matching.{offers_of, AreListed, RoseBy}
 use Rattle.cep_rule.specs.Shapes.{IsOfferOf}
 use Rattle.cep_step.specs.declared.limit.Limit.{Limit}
-use Rattle.cep_machine.specs.Configuration.{Configuration}
+use Rattle.cep_step.specs.declared.change.Change.{Change}
+use Rattle.cep_step.specs.declared.weighing.Weighed.{Weighed}
+use Rattle.cep_step.specs.declared.weighing.Weighed.TheVariants as weighing
+use Rattle.cep_step.specs.Changes.{IsChangeOf, changed}
+use Rattle.cep_machine.specs.Configuration.{Configuration, spot_of}
 use Rattle.cep_machine.specs.Asking.{asked_offers, IsAskedIn}
-use Rattle.cep_step.specs.Passing.{Passes, IsExcess}
-use Rattle.cep_machine.specs.declared.stepped.Stepped.{Stepped}
-use Rattle.cep_machine.specs.declared.stepped.Stepped.TheVariants as stepping
-use Rattle.cep_machine.specs.Stepping.{IsAskedAt, IsNext, IsStepped, RoseIfDone}
+use Rattle.cep_machine.specs.Stepping.{IsWeighedAt}
 use Rattle.cep_run.specs.declared.choice.Choice.{Choice}
 use Rattle.cep_run.specs.declared.choice.Choice.TheVariants.{Place}
 use Rattle.cep_lines.specs.declared.end_word.EndWord.{EndWord}
@@ -35,19 +34,18 @@ use Rattle.cep_run.specs.declared.turn.Turned.{Turned}
 use Rattle.cep_run.specs.declared.turn.Turned.TheVariants.{Done, Over}
 use Rattle.cep_run.specs.declared.deciding.Spent.{Spent}
 use Rattle.cep_run.specs.Deciding.{Supply, How}
-use Rattle.cep_rule.specs.Derivations.{ProofTree}
-use Rattle.cep_lines.specs.Lines.{deed_lines}
+use Rattle.cep_lines.specs.Lines.{step_lines, expected_listing, deed_lines}
 use Rattle.cep_step.specs.Deeds.{Position, Deed}
-use Rattle.cep_run.specs.Costs.{Edits, IsStepCost, IsDeedCost}
+use Rattle.cep_run.specs.Costs.{Edits, IsDeedCost}
 use Rattle.cep_log.specs.Holding.{lines_of_deed}
 use Rattle.cep_run.specs.Run.{Question, Turn, IsQuestion, IsChosen, IsTurn, EndsAt, offers_end}
 use Rattle.cep_run.specs.Dialogue.{asked_events}
 use Rattle.cep_run.specs.Fronts.{BeginsSome}
-use Rattle.cep_run.specs.Begun.{SettlesSome, BeginsAct, IsQuestionOrTurn}
-use Rattle.cep_run.specs.Turn.{position_of, supply_with, IsPlayed, IsOfferedHere, Settles, IsPlaced, ProveBacks, TellsDeed, BeginsDeed, Acts, WouldPass, limit_word, IsActed, IsMoved, RoseByAct, DoesTurn, Stops, IsTurned, config_left}
+use Rattle.cep_run.specs.Begun.{PutsFront, SettlesSome, BeginsAct, IsQuestionOrTurn}
+use Rattle.cep_run.specs.Turn.{position_of, supply_with, IsOfferedHere, Settles, IsPlaced, AreStepLines, Acts, WouldPass, limit_word, IsActed, IsMoved, RoseByAct, DoesTurn, Stops, IsTurned}
 use Rattle.cep_base.proofs.Did.{did_same, did_map, did_then}
 use Rattle.cep_run.proofs.TurnSteps.{lawful_step, limit_end}
-use Rattle.cep_run.proofs.Fronts.{front_of_front}
+use Rattle.cep_run.proofs.Fronts.{front_of_front, put_on}
 use Rattle.cep_run.proofs.Unheard.{Short, Joins, Maps, left_then, settles_left, act_left}
 
 none_some : {A B : Type 0} (x : A) → ◌≡◌ {A = Option A} None (Some x) → B
@@ -108,166 +106,93 @@ module _ {M : Type 0} (height_held : M → ℕ) (state_held : M → Multiset) (o
 
 -- Steps
 
-module _ {M : Type 0} (program : Parts) (height : ℕ) (held : Multiset) (group : ℕ) (lists : List (List Offer)) (offers : List Offer) (place : ℕ) (offer : Offer) (old : Configuration M)
-    (are : AreOffers program height held group offers) (at : slice_get offers place ≡ Some offer) (asked : offers ≡ asked_offers lists old.stage) where
-  pub rule_of : Rule
-  rule_of = (is_offer program height held group offers are place offer at).applies.rule
+-- an offer that a matcher lists applies within the height of the run
+pub listed_applies : {program : Parts} {height : ℕ} {state : Multiset} {lists : List (List Offer)} {group : ℕ} (place : ℕ) {offer : Offer} (settings : Settings) → AreListed program height state lists → group < length lists → slice_get (offers_of lists group) place ≡ Some offer → height ≡ settings.height
+    → Applies program settings.height state offer
+listed_applies {program} {height} {state} {lists} {group} place {offer} settings are listed at same = rw same at (is_offer program height state group (offers_of lists group) (are.each group listed) place offer at).applies
 
-  numbered : slice_get program.rules offer.rule ≡ Some rule_of
-  unfolding rule_of is_offer
-  numbered = (is_offer program height held group offers are place offer at).applies.numbered
-
-  chosen_there : IsAskedAt program lists old.stage place rule_of offer.values
-  chosen_there = record { number = offer.rule; offered = subst (λ xs. slice_get xs place ≡ Some offer) asked at; numbered = numbered }
-
-  is_placed : IsPlaced program offers place offer rule_of
-  is_placed = record { at_place = at; of_rule = numbered }
-
-  -- the offer applies, within the height of the run
-  pub offer_applies : (settings : Settings) → height ≡ settings.height → Applies program settings.height held offer
-  offer_applies settings same = subst (λ h. Applies program h held offer) same (is_offer program height held group offers are place offer at).applies
-
-  same_rule : (rule : Rule) → slice_get program.rules offer.rule ≡ Some rule → rule ≡ rule_of
-  same_rule rule is = some_same rule rule_of (sym is ∙ numbered)
-
-  -- the step was done
-  pub step_acts : (high : ℕ) (new : Configuration M) (proofs : List ProofTree) → ((rule : Rule) (values : List Tree) → IsAskedAt program lists old.stage place rule values → IsNext program rule values old new) → ProveBacks program high offer proofs
-      → (come : List ℕ) (events : List Event) (rest : List ℕ) → TellsDeed program offer proofs new.turns new.state come events rest → Acts program high offers place (position_of old) (position_of new) come events rest
-  step_acts high new proofs stepped proved come events rest told = record {
-    offer = offer;
-    rule = rule_of;
-    proofs = proofs;
-    placed = is_placed;
-    proved = subst (λ (rule : Rule). AreProofs program high proofs (full_instances offer.values rule.backs)) (same_rule proved.rule proved.numbered) proved.proved;
-    steps = (stepped rule_of offer.values chosen_there).steps;
-    written = told.written ∙ ap (λ (rule : Rule). outs (deed_lines program offer proofs rule.next new.turns new.state)) (same_rule told.rule told.numbered);
-    untaken = told.untaken;
-  }
-
-  pub one_turn_more : (new : Configuration M) → ((rule : Rule) (values : List Tree) → IsAskedAt program lists old.stage place rule values → IsNext program rule values old new) → new.turns ≡ old.turns + 1
-  one_turn_more new stepped = (stepped rule_of offer.values chosen_there).turns
+-- What the choice of a place comes to, by what the step by the offer there was weighed to
+module _ {M : Type 0} {program : Parts} {lists : List (List Offer)} {offers : List Offer} {place : ℕ} (old : Configuration M) {weighed : Weighed}
+    (is : IsWeighedAt program lists place (spot_of old) weighed) (asked : offers ≡ asked_offers lists old.stage) where
+  placed : IsPlaced program offers place is.offer is.rule
+  placed = record { at_place = rw asked is.offered; of_rule = is.numbered }
 
   -- the step would pass a limit
-  pub step_fails : (last : Configuration M) (passed : Limit) (number : ℕ) → ((rule : Rule) (values : List Tree) → IsAskedAt program lists old.stage place rule values → (last ≡ old) × Passes program.signature rule values old.state passed × IsExcess program.signature rule values old.state passed number)
-      → (come : List ℕ) (events : List Event) (rest : List ℕ) → (events ≡ []) × (rest ≡ come) → WouldPass program offers place (limit_word passed) (position_of old) come events rest
-  step_fails last passed number stepped come events rest same = record {
-    offer = offer;
-    rule = rule_of;
-    placed = is_placed;
-    passed = passed;
-    named = refl;
-    passes = (stepped rule_of offer.values chosen_there).1;
-    unwritten = same.0;
-    untaken = same.1;
-  }
+  pub limit_acts : {C : Type 0} (talk : C → Option (List Event)) (left : C → Option (List ℕ)) (console : C) (height : ℕ) (passed : Limit) (number : ℕ) → weighed ≡ weighing.Passes passed number
+      → IsActed talk left console console program height offers place old (Over (record { config = old; word = limit_word passed }))
+  limit_acts talk left console height passed number passes = (
+    did_map talk left console console _ _
+        (λ come events rest same. record {
+          offer = is.offer;
+          rule = is.rule;
+          placed = placed;
+          passed = passed;
+          named = refl;
+          passes = (rw passes at is.is).0;
+          unwritten = same.0;
+          untaken = same.1;
+        })
+        (did_same talk left console console refl refl),
+    refl,
+  )
 
-  pub left_alone : (last : Configuration M) (passed : Limit) (number : ℕ) → ((rule : Rule) (values : List Tree) → IsAskedAt program lists old.stage place rule values → (last ≡ old) × Passes program.signature rule values old.state passed × IsExcess program.signature rule values old.state passed number) → last ≡ old
-  left_alone last passed number stepped = (stepped rule_of offer.values chosen_there).0
+  -- the step was done
+  module _ {change : Change} (within : weighed ≡ weighing.Within change) (new : Configuration M) (spot : spot_of new ≡ changed (spot_of old) change) (counted : new.turns ≡ old.turns + 1) where
+    does : IsChangeOf program is.rule is.offer.values (spot_of old) change
+    does = rw within at is.is
 
--- What the choice of a place comes to, from what the matcher lists there and a copy of it
-module _ {M : Type 0} (height_held : M → ℕ) (state_held : M → Multiset) (offers_held : M → List (List Offer)) (program : Parts) (group place : ℕ) (old : Configuration M)
-    (lists : AreListed program (height_held old.matcher) (state_held old.matcher) (offers_held old.matcher)) (listed : group < length (offers_held old.matcher))
-    (asked : offers_of (offers_held old.matcher) group ≡ asked_offers (offers_held old.matcher) old.stage)
-    {offer : Offer} (at : slice_get (offers_of (offers_held old.matcher) group) place ≡ Some offer) where
-  abbrev high : ℕ
-  high = height_held old.matcher
+    leads : StepsTo program is.rule is.offer.values (spot_of old) (spot_of new)
+    unfolding does
+    leads = rw spot does.leads
 
-  abbrev held : Multiset
-  held = state_held old.matcher
+    pub done_moves : IsMoved program offers place old (Done new)
+    done_moves = (is.offer, is.rule, placed, leads)
 
-  abbrev all : List (List Offer)
-  all = offers_held old.matcher
+    -- by this offer, with these lines
+    module _ {offer : Offer} (at : slice_get offers place ≡ Some offer) {height : ℕ} {unread : Type 0} {lines : Option (List ℕ)} (has : AreStepLines program height offer unread lines) where
+      same_offer : is.offer ≡ offer
+      same_offer = some_same is.offer offer (sym is.offered ∙ (ap (λ xs. slice_get xs place) (sym asked) ∙ at))
 
-  -- the copy applies
-  pub copy_applies : (settings : Settings) → high ≡ settings.height → (state : Multiset) × Applies program settings.height state offer
-  copy_applies settings same = (held, offer_applies program high held group all (offers_of all group) place offer old (lists.each group listed) at asked settings same)
+      same_rule : is.rule ≡ has.rule
+      same_rule = some_same is.rule has.rule (sym is.numbered ∙ rw same_offer has.numbered)
 
-  module _ {C : Type 0} (talk : C → Option (List Event)) (left : C → Option (List ℕ)) (console : C) (height : ℕ) (stepped : Stepped M)
-      (comes : (rule : Rule) (values : List Tree) → IsAskedAt program all old.stage place rule values → IsStepped program rule values old stepped) where
-    -- the step was done, and its lines were written
-    pub done_acts : (next : Configuration M) → stepped ≡ stepping.Done next → (new : C) (proofs : List ProofTree) → ProveBacks program height offer proofs → Did talk left console new (TellsDeed program offer proofs next.turns next.state)
-        → IsActed talk left console new program height (offers_of all group) place old (Done next)
-    done_acts next is new proofs proved told =
-        let leads = λ (rule : Rule) (values : List Tree) (h : IsAskedAt program all old.stage place rule values). subst (IsStepped program rule values old) is (comes rule values h) in (
-          did_map talk left console new _ _ (step_acts program high held group all (offers_of all group) place offer old (lists.each group listed) at asked height next proofs leads proved) told,
-          one_turn_more program high held group all (offers_of all group) place offer old (lists.each group listed) at asked next leads,
-        )
+      abbrev text : List ℕ
+      text = step_lines program offer has.proofs has.rule.next ++ expected_listing program.signature new.turns new.state
 
-    -- and it leads from one spot to the other
-    pub done_moves : (next : Configuration M) → stepped ≡ stepping.Done next → IsMoved program (offers_of all group) place old (Done next)
-    done_moves next is =
-        let leads = λ (rule : Rule) (values : List Tree) (h : IsAskedAt program all old.stage place rule values). subst (IsStepped program rule values old) is (comes rule values h) in
-        let rule = rule_of program high held group all (offers_of all group) place offer old (lists.each group listed) at asked in (
-          offer,
-          rule,
-          is_placed program high held group all (offers_of all group) place offer old (lists.each group listed) at asked,
-          (leads rule offer.values (chosen_there program high held group all (offers_of all group) place offer old (lists.each group listed) at asked)).steps,
-        )
+      acts : (come : List ℕ) (events : List Event) (rest : List ℕ) → (events ≡ outs text) × (rest ≡ come) → Acts program height offers place (position_of old) (position_of new) come events rest
+      unfolding deed_lines
+      acts come events rest told = record {
+        offer = offer;
+        rule = has.rule;
+        proofs = has.proofs;
+        placed = record { at_place = at; of_rule = has.numbered };
+        proved = has.proved;
+        steps = rw (same_offer, same_rule) at leads;
+        written = told.0;
+        untaken = told.1;
+      }
 
-    -- the step was done, and the writing of its lines was refused
-    pub cut_acts : (next : Configuration M) → stepped ≡ stepping.Done next → (new : C) (proofs : List ProofTree) → ProveBacks program height offer proofs → Did talk left console new (BeginsDeed program offer proofs next.turns next.state)
-        → Did talk left console new (BeginsAct program height (offers_of all group) place (position_of old))
-    cut_acts next is new proofs proved begun =
-        let leads = λ (rule : Rule) (values : List Tree) (h : IsAskedAt program all old.stage place rule values). subst (IsStepped program rule values old) is (comes rule values h) in
-        did_map talk left console new _ _
-        (λ come events rest cut. inr (record {
-          next = position_of next;
-          counted = one_turn_more program high held group all (offers_of all group) place offer old (lists.each group listed) at asked next leads;
-          more = cut.more;
-          acts = step_acts program high held group all (offers_of all group) place offer old (lists.each group listed) at asked height next proofs leads proved come (events ++ cut.more) rest cut.tells;
-        }))
-        begun
+      pub done_acts : {C : Type 0} (talk : C → Option (List Event)) (left : C → Option (List ℕ)) (console after : C) → Did talk left console after (λ come events rest. (events ≡ outs text) × (rest ≡ come)) → IsActed talk left console after program height offers place old (Done new)
+      done_acts talk left console after told = (did_map talk left console after _ _ acts told, counted)
 
-    -- it was done, and the counter rose by what it costs: by what the edit may tick, and then by one for each backward premise
-    pub done_rose : (may_edit : Edits) (next : Configuration M) → stepped ≡ stepping.Done next → (old_steps between new_steps : ℕ)
-        → ((rule : Rule) (values : List Tree) → IsAskedAt program all old.stage place rule values → RoseIfDone (may_edit program old.state high (gathered (taken_by program.signature rule values)) (added_by program.signature rule values)) stepped old_steps between)
-        → ((rule : Rule) → slice_get program.rules offer.rule ≡ Some rule → new_steps ≡ between + length rule.backs)
-        → (at_height : ℕ) → high ≡ at_height → RoseByAct may_edit program at_height (offers_of all group) place old (Done next) old_steps new_steps
-    done_rose may_edit next is old_steps between new_steps edited proved at_height same other rule placed =
-        let one : other ≡ offer = some_same other offer (sym placed.at_place ∙ at) in
-        let numbered : slice_get program.rules offer.rule ≡ Some rule = subst (λ (o : Offer). slice_get program.rules o.rule ≡ Some rule) one placed.of_rule in
-        let chosen : IsAskedAt program all old.stage place rule offer.values = record { number = offer.rule; offered = subst (λ xs. slice_get xs place ≡ Some offer) asked at; numbered = numbered } in
-        let rose = subst (λ s. RoseIfDone (may_edit program old.state high (gathered (taken_by program.signature rule offer.values)) (added_by program.signature rule offer.values)) s old_steps between) is (edited rule offer.values chosen) in
-        let first = rose.risen in
-        let later = proved rule numbered in
-        subst (λ (o : Offer). RoseBy (IsStepCost may_edit program at_height old.state rule o.values) old_steps new_steps) (sym one)
-        (subst (λ h. RoseBy (IsStepCost may_edit program h old.state rule offer.values) old_steps new_steps) same
-        (record { ticks = rose.ticks + length rule.backs; allows = record { edit = rose.ticks; allowed = rose.allows; sum = refl }; risen = omega (arith, first, later) }))
+      -- and the writing of its lines was refused
+      pub cut_acts : {C : Type 0} (talk : C → Option (List Event)) (left : C → Option (List ℕ)) (console after : C) → Did talk left console after (PutsFront text) → Did talk left console after (BeginsAct program height offers place (position_of old))
+      cut_acts talk left console after begun =
+          did_map talk left console after _ _
+          (λ come events rest cut.
+          let (more, whole) = put_on text come events rest cut in
+          inr (record { next = position_of new; counted = counted; more = more; acts = acts come (events ++ more) rest (whole, cut.untaken) })) begun
 
-    module _ (last : Configuration M) (passed : Limit) (number : ℕ) (is : stepped ≡ stepping.Passes last passed number) where
-      fails : (rule : Rule) (values : List Tree) → IsAskedAt program all old.stage place rule values → (last ≡ old) × Passes program.signature rule values old.state passed × IsExcess program.signature rule values old.state passed number
-      fails rule values h = subst (IsStepped program rule values old) is (comes rule values h)
-
-      -- the step would pass a limit, and nothing was done
-      pub stays : last ≡ old
-      stays = left_alone program high held group all (offers_of all group) place offer old (lists.each group listed) at asked last passed number fails
-
-      pub limit_acts : (word : EndWord) → word ≡ limit_word passed → (turned : Turned M) → turned ≡ Over (record { config = last; word = word }) → IsActed talk left console console program height (offers_of all group) place old turned
-      limit_acts word named turned over =
-          subst (IsActed talk left console console program height (offers_of all group) place old) (sym over)
-          (subst (λ w. IsActed talk left console console program height (offers_of all group) place old (Over (record { config = last; word = w }))) (sym named) (
-            did_map talk left console console _ _
-                (step_fails program high held group all (offers_of all group) place offer old (lists.each group listed) at asked last passed number fails)
-                (did_same talk left console console refl refl),
-            stays,
-          ))
-
-      -- nothing was counted
-      pub limit_rose : (may_edit : Edits) (old_steps new_steps : ℕ) → ((rule : Rule) (values : List Tree) → IsAskedAt program all old.stage place rule values → RoseIfDone (may_edit program old.state high (gathered (taken_by program.signature rule values)) (added_by program.signature rule values)) stepped old_steps new_steps)
-          → (at_height : ℕ) (word : EndWord) (turned : Turned M) → turned ≡ Over (record { config = last; word = word }) → RoseByAct may_edit program at_height (offers_of all group) place old turned old_steps new_steps
-      limit_rose may_edit old_steps new_steps edited at_height word turned over =
-          let chosen = chosen_there program high held group all (offers_of all group) place offer old (lists.each group listed) at asked in
-          let rule = rule_of program high held group all (offers_of all group) place offer old (lists.each group listed) at asked in
-          subst (λ t. RoseByAct may_edit program at_height (offers_of all group) place old t old_steps new_steps) (sym over)
-          (subst (λ s. RoseIfDone (may_edit program old.state high (gathered (taken_by program.signature rule offer.values)) (added_by program.signature rule offer.values)) s old_steps new_steps) is (edited rule offer.values chosen))
-
-      pub limit_played : (is_of : Parts → M → Type 0) (settings : Settings) → IsPlayed is_of height_held program settings old → (word : EndWord) (turned : Turned M) → turned ≡ Over (record { config = last; word = word }) → IsPlayed is_of height_held program settings (config_left turned)
-      limit_played is_of settings played word turned over =
-          subst (λ t. IsPlayed is_of height_held program settings (config_left t)) (sym over) (subst (IsPlayed is_of height_held program settings) (sym stays) played)
-
--- nothing moves where a run ends
-pub over_moves : {M : Type 0} (program : Parts) (offers : List Offer) (place : ℕ) (old config : Configuration M) (word : EndWord) (turned : Turned M) → turned ≡ Over (record { config = config; word = word }) → IsMoved program offers place old turned
-over_moves program offers place old config word turned is = subst (IsMoved program offers place old) (sym is) tt
+      -- the counter rose by one for each backward premise, and then by what the edit may tick
+      pub done_rose : (may_edit : Edits) (at_height high : ℕ) → high ≡ at_height → (ticks between ticks' : ℕ) → ((rule : Rule) → slice_get program.rules offer.rule ≡ Some rule → between ≡ ticks + length rule.backs)
+          → RoseBy (may_edit program old.state high change.taken change.added) between ticks' → RoseByAct may_edit program at_height offers place old (Done new) ticks ticks'
+      done_rose may_edit at_height high same ticks between ticks' proved edited other rule placed_there =
+          let one : offer ≡ other = some_same offer other (sym at ∙ placed_there.at_place) in
+          let rules : is.rule ≡ rule = some_same is.rule rule (sym is.numbered ∙ rw (same_offer, one) placed_there.of_rule) in
+          let allowed = rw (does.taken, does.added, same) at edited.allows in
+          let first = proved rule (rw one placed_there.of_rule) in
+          let later = edited.risen in
+          record { ticks = edited.ticks + length rule.backs; allows = record { edit = edited.ticks; allowed = rw (same_offer, one, rules) at allowed; sum = refl }; risen = omega (arith, first, later) }
 
 -- Turns
 

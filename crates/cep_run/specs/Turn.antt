@@ -1,12 +1,11 @@
 -- What a part of a run does: words for the functions that do it.
-use Rattle.std.specs.Prelude.{◌≡◌, ℕ, ◌+◌, ◌<◌, ◌≤◌, List, [], ◌++◌, Option, Some, length, slice_get}
+use Rattle.std.specs.Prelude.{◌≡◌, ℕ, ◌+◌, ◌<◌, ◌≤◌, List, [], ◌++◌, Option, Some, length, slice_get, MatchOption}
 use Rattle.std.specs.List.{flat_map}
 use Rattle.cep_base.specs.declared.console.Event.{Event}
 use Rattle.cep_base.specs.declared.limits.TheConstants.{MOST_OFFERS, MOST_TYPED}
 use Rattle.cep_base.specs.Talk.{outs, Did}
 use Rattle.cep_choice.specs.Draws.{generator_behind}
 use Rattle.cep_term.specs.Tree.{AtomTree}
-use Rattle.cep_term.specs.Multiset.{Multiset}
 use Rattle.cep_rule.specs.declared.parts.Parts.{Parts}
 use Rattle.cep_rule.specs.declared.offer.Offer.{Offer}
 use Rattle.cep_rule.specs.declared.rule.Rule.{Rule}
@@ -27,7 +26,7 @@ use Rattle.cep_run.specs.declared.turn.Turned.TheVariants.{Done, Over}
 use Rattle.cep_run.specs.Choice.{Hears}
 use Rattle.cep_run.specs.declared.deciding.Spent.{Spent}
 use Rattle.cep_run.specs.Deciding.{Supply, How, Decides}
-use Rattle.cep_lines.specs.Lines.{deed_lines}
+use Rattle.cep_lines.specs.Lines.{step_lines, deed_lines}
 use Rattle.cep_log.specs.Holding.{lines_of_deed}
 use Rattle.cep_rule.specs.Matching.{RoseBy}
 use Rattle.cep_step.specs.Deeds.{Position, Deed}
@@ -102,19 +101,16 @@ pub record ProveBacks (program : Parts) (height : ℕ) (offer : Offer)
   pub numbered : slice_get program.rules offer.rule ≡ Some rule
   pub proved : AreProofs program height proofs (full_instances offer.values rule.backs)
 
--- The lines of the deed that counts as the turn of this number are written, and nothing is taken.
-pub record TellsDeed (program : Parts) (offer : Offer) (proofs : List ProofTree) (number : ℕ)
-    (state : Multiset) (come : List ℕ) (events : List Event) (rest : List ℕ) : Type 0 where
+-- The lines of the step by an offer, with derivations that prove its backward premises within the
+-- height; or there are none, and nobody reads them.
+pub record AreStepLines (program : Parts) (height : ℕ) (offer : Offer) (unread : Type 0)
+    (lines : Option (List ℕ)) : Type 0 where
   pub rule : Rule
+  pub proofs : List ProofTree
   pub numbered : slice_get program.rules offer.rule ≡ Some rule
-  pub written : events ≡ outs (deed_lines program offer proofs rule.next number state)
-  pub untaken : rest ≡ come
-
--- A prefix of these lines is written, and nothing is taken: with further events they are all.
-pub record BeginsDeed (program : Parts) (offer : Offer) (proofs : List ProofTree) (number : ℕ)
-    (state : Multiset) (come : List ℕ) (events : List Event) (rest : List ℕ) : Type 0 where
-  pub more : List Event
-  pub tells : TellsDeed program offer proofs number state come (events ++ more) rest
+  pub proved : AreProofs program height proofs (full_instances offer.values rule.backs)
+  pub written : MatchOption lines unread (λ text. text
+      ≡ step_lines program offer proofs rule.next)
 
 -- The step by the offer at a place leads from one position to the other, its backward premises are
 -- proved within the height, and its lines are written.

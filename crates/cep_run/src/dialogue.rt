@@ -1,11 +1,10 @@
 //! A run: turn by turn the offers are written, one of them is chosen, and the step is done.
-ghost use Rattle.std.specs.Prelude.{◌≡◌, ◌≤◌, length, IfOk, OnOk, OnErr};
+ghost use Rattle.std.specs.Prelude.{◌≡◌, ◌≤◌, IfOk, OnOk, OnErr};
 ghost use Rattle.cep_base.specs.declared.limits.TheConstants.{MOST_TURNS};
 ghost use Rattle.cep_base.specs.Talk.{outs, Did, ConsoleCause};
 ghost use Rattle.cep_rule.specs.Limits.{IsHeight};
 ghost use Rattle.cep_rule.specs.State.{IsState};
 ghost use Rattle.cep_rule.specs.Matching.{RoseBy};
-ghost use Rattle.cep_machine.specs.Asking.{asked_offers};
 ghost use Rattle.cep_lines.specs.Lines.{end_lines, header};
 ghost use Rattle.cep_run.specs.Costs.{AreDeedCosts, IsRunCost};
 ghost use Rattle.cep_run.specs.Run.{whole_supply, deeds_of};
@@ -37,16 +36,6 @@ struct Finished<M: Matcher> {
     offers: u64,
 }
 
-/// How many offers the stage asks about.
-fn offers_asked<M: Matcher>(config: &Config<M>) -> usize
-    ensures { result ≡ length (asked_offers (M.offers_held config.now.matcher) config.now.stage) }
-{
-    match config.asked() {
-        Some(group) => config.matcher().count(group),
-        None => 0,
-    }
-}
-
 /// Does turn after turn, until the run ends.
 fn all_turns<C: Console, M: Matcher, L: Ledger>(
     alloc: Global,
@@ -73,9 +62,18 @@ fn all_turns<C: Console, M: Matcher, L: Ledger>(
     let mut config = start;
     let mut spent = Spent::nothing(settings.seed);
     let mut offers = 0;
-    for _done in 0..settings.limit {
-        let asked = offers_asked(&config);
-        config = match turn(alloc, program, settings, config, console, &mut spent, steps)? {
+    while let Some(group) = config.asked() {
+        if config.turns() >= settings.limit {
+            return Ok(Finished {
+                config,
+                word: EndWord::Turns,
+                offers,
+            });
+        }
+        let listed = config.matcher().count(group);
+        config = match turn(
+            alloc, program, settings, config, group, console, &mut spent, steps,
+        )? {
             Turned::Done(next) => next,
             Turned::Over(end) => {
                 return Ok(Finished {
@@ -85,20 +83,13 @@ fn all_turns<C: Console, M: Matcher, L: Ledger>(
                 });
             }
         };
-        offers += asked as u64;
+        offers += listed as u64;
     }
-    match config.asked() {
-        Some(_) => Ok(Finished {
-            config,
-            word: EndWord::Turns,
-            offers,
-        }),
-        None => Ok(Finished {
-            config,
-            word: EndWord::Quiet,
-            offers,
-        }),
-    }
+    Ok(Finished {
+        config,
+        word: EndWord::Quiet,
+        offers,
+    })
 }
 
 /// Writes the header of a transcript.

@@ -1,34 +1,36 @@
 //! One turn of a run: the offers are written, one of them is chosen, and the step is done.
-ghost use Rattle.std.specs.Prelude.{◌≡◌, ◌+◌, ◌<◌, ◌≤◌, length, IfOk, OnOk, OnErr};
+ghost use Rattle.std.specs.Prelude.{◌≡◌, ℕ, ◌+◌, ◌<◌, ◌≤◌, List, ◌++◌, length, slice_get, None, Some, IfOk, MatchOption, OnOk, OnErr};
 ghost use Rattle.cep_base.specs.declared.limits.TheConstants.{MOST_TURNS};
-ghost use Rattle.cep_base.specs.Talk.{Did, ConsoleCause};
-ghost use Rattle.std.specs.List.{AllByRecursion};
+ghost use Rattle.cep_base.specs.Talk.{outs, Did, ConsoleCause};
+ghost use Rattle.cep_term.specs.Multiset.{Multiset};
+ghost use Rattle.cep_rule.specs.declared.rule.Rule.{Rule};
+ghost use Rattle.cep_rule.specs.Limits.{IsHeight};
 ghost use Rattle.cep_rule.specs.State.{IsState};
-ghost use Rattle.cep_rule.specs.Shapes.{IsOfferOf, IsProofOf};
+ghost use Rattle.cep_rule.specs.Offers.{Applies};
+ghost use Rattle.cep_rule.specs.Stages.{IsAsked};
 ghost use Rattle.cep_rule.specs.Matching.{offers_of};
-ghost use Rattle.cep_machine.specs.Asking.{asked_offers};
+ghost use Rattle.cep_machine.specs.Asking.{asked_offers, IsAskedIn};
+ghost use Rattle.cep_lines.specs.Lines.{expected_listing};
 ghost use Rattle.cep_run.specs.declared.turn.Turned.TheVariants.{Over};
 ghost use Rattle.cep_run.specs.Fronts.{FellShort, IsRunOf};
-ghost use Rattle.cep_run.specs.Begun.{BeginsAct, IsQuestionOrTurn};
+ghost use Rattle.cep_run.specs.Begun.{PutsFront, BeginsAct, IsQuestionOrTurn};
 ghost use Rattle.cep_run.specs.Dialogue.{asking_line};
 ghost use Rattle.cep_rule.specs.Matching.{RoseBy};
 ghost use Rattle.cep_run.specs.Costs.{IsDeedCost};
-ghost use Rattle.cep_run.specs.Turn.{position_of, supply_with, HasSpent, IsOfferedHere, IsPlayed, TellsDeed, BeginsDeed, IsActed, IsMoved, RoseByAct, IsTurned, config_left, limit_word};
+ghost use Rattle.cep_run.specs.Turn.{position_of, supply_with, HasSpent, IsOfferedHere, IsPlayed, AreStepLines, IsActed, IsMoved, RoseByAct, IsTurned, config_left, limit_word};
 
 use crate::choice::Choice;
-use crate::copying::copy_offer;
 use crate::deciding::{Spent, decide};
 use crate::laws::runs_go_on;
 use crate::proving::prove_backs;
 use crate::settings::Settings;
 use cep_base::{Console, ConsoleFault, Steps, Text};
-use cep_lines::{EndWord, put_deed};
-use cep_log::Proofs;
-use cep_machine::{Config, Stepped};
+use cep_lines::{EndWord, put_expected_listing, put_step_lines};
+use cep_machine::Config;
 use cep_rule::laws::derivations_have_shape;
 use cep_rule::{Matcher, Offer, Program};
-use cep_step::Limit;
-use std::alloc::Global;
+use cep_step::{Limit, Weighed};
+use std::alloc::{AllocError, Global};
 use std::sync::ledger::Ledger;
 
 /// Where a run ended, and why.
@@ -55,9 +57,9 @@ fn over<M: Matcher>(config: Config<M>, word: EndWord) -> Turned<M>
 }
 
 /// Does the step by the offer at a place, counted from 0, and writes it with what proves its backward
-/// premises and the stage that it leads to; or says which limit it would pass. The lines are made
-/// after the step, so that nothing is proved of one that is not done, and so of a copy of the offer:
-/// the matcher that has it goes with the step.
+/// premises and the stage that it leads to; or says which limit it would pass. The step is weighed first, so
+/// that nothing is proved of one that is not done. Its lines are made before the state is changed, since the
+/// offer is the matcher's, which goes with the step; they are written after it.
 pub fn act<C: Console, M: Matcher, L: Ledger>(
     alloc: Global,
     program: &Program,
@@ -89,51 +91,73 @@ pub fn act<C: Console, M: Matcher, L: Ledger>(
     ensures counted { steps.old ≤ steps.new }
     ensures cause { ConsoleCause (C.faults console.old) (C.faults console.new) result }
 {
-    derivations_have_shape();
-    let chosen = config.matcher().offer(group, place);
-    let offer = copy_offer(alloc, chosen)?;
-    match config.step(alloc, program, place, steps)? {
-        Stepped::Done(config) => {
-            let proofs = prove_backs(alloc, program, &offer, settings.height, steps)?;
-            tell_deed(alloc, program, &offer, &proofs, &config, console)?;
+    match config.weigh(alloc, program, group, place)? {
+        Weighed::Passes(limit, _) => Ok(over(config, word_of(limit))),
+        Weighed::Within(change) => {
+            let offer = config.matcher().offer(group, place);
+            let lines = step_lines(alloc, program, offer, settings.height, console, steps)?;
+            let config = config.go(alloc, program, &change, steps)?;
+            tell_deed(program, &config, lines, console)?;
             Ok(Turned::Done(config))
         }
-        Stepped::Passes { config, limit, .. } => Ok(over(config, word_of(limit))),
     }
 }
 
-// Writes the lines of a deed that led to this configuration. Where nobody reads them, none are made.
-fn tell_deed<C: Console, M: Matcher>(
+// The lines of the step by an offer that applies, with what proves its backward premises. Where nobody reads
+// them, none are made.
+fn step_lines<C: Console, L: Ledger>(
     alloc: Global,
     program: &Program,
     offer: &Offer,
-    proofs: &Proofs,
+    height: u32,
+    console: &C,
+    steps: &mut Steps<L>,
+) -> Result<Option<Text>, AllocError>
+    requires height { IsHeight height }
+    requires applies { (state : Multiset) × Applies program.now height state offer.now }
+    ensures lines { IfOk result (AreStepLines program.now height offer.now
+        (C.talk console.now ≡ None)) }
+    ensures ticked { OnOk result
+        ((rule : Rule) → slice_get program.now.rules offer.now.rule ≡ Some rule
+        → steps.new ≡ steps.old + length rule.backs) }
+    ensures counted { steps.old ≤ steps.new }
+{
+    derivations_have_shape();
+    let proofs = prove_backs(alloc, program, offer, height, steps)?;
+    if !console.is_read() {
+        return Ok(None);
+    }
+    let rule = program.parts().rules.get(offer.rule as usize);
+    let mut lines = Text::new(alloc);
+    put_step_lines(program, offer, proofs.as_slice(), rule.next, &mut lines)?;
+    Ok(Some(lines))
+}
+
+// Writes the lines of a step that led to this configuration, if there are any, and the listing of its state,
+// where one is expected.
+fn tell_deed<C: Console, M: Matcher>(
+    program: &Program,
     config: &Config<M>,
+    lines: Option<Text>,
     console: &mut C,
 ) -> Result<(), ConsoleFault>
-    requires offer { IsOfferOf program.now offer.now }
-    requires proofs { AllByRecursion (IsProofOf program.now) proofs.now }
     requires state { IsState program.now.signature config.now.state }
-    ensures told { OnOk result (Did C.talk C.left console.old console.new
-        (TellsDeed program.now offer.now proofs.now config.now.turns config.now.state)) }
-    ensures begun { OnErr result (Did C.talk C.left console.old console.new
-        (BeginsDeed program.now offer.now proofs.now config.now.turns config.now.state)) }
+    ensures told { OnOk result ((text : List ℕ)
+        → MatchOption lines (C.talk console.old ≡ None) (λ bytes. bytes ≡ text)
+        → Did C.talk C.left console.old console.new (λ come events rest.
+        (events ≡ outs (text ++ expected_listing program.now.signature
+        config.now.turns config.now.state)) × (rest ≡ come))) }
+    ensures begun { OnErr result ((text : List ℕ)
+        → MatchOption lines (C.talk console.old ≡ None) (λ bytes. bytes ≡ text)
+        → Did C.talk C.left console.old console.new
+        (PutsFront (text ++ expected_listing program.now.signature
+        config.now.turns config.now.state))) }
     ensures cause { ConsoleCause (C.faults console.old) (C.faults console.new) result }
 {
-    let rule = program.parts().rules.get(offer.rule as usize);
-    if !console.is_read() {
+    let Some(mut lines) = lines else {
         return Ok(());
-    }
-    let mut lines = Text::new(alloc);
-    put_deed(
-        program,
-        offer,
-        proofs.as_slice(),
-        rule.next,
-        config.turns(),
-        config.state(),
-        &mut lines,
-    )?;
+    };
+    put_expected_listing(program, config.turns(), config.state(), &mut lines)?;
     console.put(lines.bytes())
 }
 
@@ -147,13 +171,14 @@ fn word_of(limit: Limit) -> EndWord
     }
 }
 
-/// Does one turn, unless the run ends before its step. Some turns remain. A refused call said a front
-/// of some run from here.
-pub fn turn<C: Console, M: Matcher, L: Ledger>(
+/// Does one turn of the group that the stage asks, unless the run ends before its step. Some turns remain. A
+/// refused call said a prefix of some run from here.
+pub(crate) fn turn<C: Console, M: Matcher, L: Ledger>(
     alloc: Global,
     program: &Program,
     settings: Settings,
     config: Config<M>,
+    group: u32,
     console: &mut C,
     spent: &mut Spent,
     steps: &mut Steps<L>,
@@ -161,12 +186,17 @@ pub fn turn<C: Console, M: Matcher, L: Ledger>(
     requires played { IsPlayed M.is_of M.height_held program.now settings config }
     requires limit { settings.limit ≤ MOST_TURNS }
     requires remain { config.turns < settings.limit }
+    requires listed { IsAskedIn (M.offers_held config.matcher) config.stage group }
+    requires asked { IsAsked program.now (M.height_held config.matcher)
+        config.state config.stage group }
+    requires offers { offers_of (M.offers_held config.matcher) group
+        ≡ asked_offers (M.offers_held config.matcher) config.stage }
     requires spent { HasSpent settings.seed config.turns spent.old }
     ensures turned { IfOk result (IsTurned C.talk C.left console.old console.new asking_line
         program.now
         settings (λ deed. RoseBy (IsDeedCost M.may_edit program.now settings.height deed) steps.old
         steps.new) (steps.new ≡ steps.old)
-        (asked_offers (M.offers_held config.matcher) config.stage) config spent.old spent.new) }
+        (offers_of (M.offers_held config.matcher) group) config spent.old spent.new) }
     ensures played { IfOk result (λ turned. IsPlayed M.is_of M.height_held program.now settings
         (config_left turned)) }
     ensures begun { OnErr result (FellShort C.talk C.left console.old console.new
@@ -177,9 +207,6 @@ pub fn turn<C: Console, M: Matcher, L: Ledger>(
 {
     runs_go_on();
     program.parts();
-    let Some(group) = config.asked() else {
-        return Ok(over(config, EndWord::Quiet));
-    };
     if !config.matcher().len_ok(group) {
         return Ok(over(config, EndWord::Offers));
     }
