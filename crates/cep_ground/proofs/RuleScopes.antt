@@ -14,7 +14,6 @@ use Rattle.cep_parse.specs.declared.raw.RawNode.{RawNode}
 use Rattle.cep_parse.specs.declared.raw.RawAtom.{RawAtom}
 use Rattle.cep_parse.specs.Written.{IsAtomOf, IsWrittenAt}
 use Rattle.cep_lex.specs.declared.token.Token.{Token}
-use Rattle.cep_lex.specs.declared.token.TokenKind.TheVariants as token
 use Rattle.cep_rule.specs.Names.{IsWord}
 use Rattle.cep_refusal.specs.declared.reason.Reason.TheVariants.{OverLimit}
 use Rattle.cep_source.specs.Items.{Source, RuleItem, ClauseItem, PredItem, said, rules_of, clauses_of}

@@ -9,7 +9,6 @@ use Rattle.std.specs.FinMap as finite
 use Rattle.std.specs.List.{AllByRecursion, list_any}
 use Rattle.std.proofs.lemmas.Bool.{ltb-true, lt-ltb}
 use Rattle.cep_term.specs.Order.{atom_cmp}
-use Rattle.cep_parse.specs.declared.raw.RawKind.TheVariants as kind
 use Rattle.cep_parse.specs.declared.raw.RawNode.{RawNode}
 use Rattle.cep_parse.specs.declared.raw.RawAtom.{RawAtom}
 use Rattle.cep_base.specs.Kinds.{is_backward}
@@ -22,7 +21,6 @@ use Rattle.cep_rule.specs.State.{IsStateAtom, IsState, Fits}
 use Rattle.cep_refusal.specs.declared.reason.Reason.TheVariants.{OverLimit}
 use Rattle.cep_source.specs.Items.{Source, TraceItem, traces_of}
 use Rattle.cep_source.specs.Uses.{made_atoms, state_atoms}
-use Rattle.cep_source.specs.declared.space.Space.TheVariants as space
 use Rattle.cep_source.specs.Variables.{occurrences_from, blanks_behind, blanks_after}
 use Rattle.cep_source.specs.Starts.{start_atoms, nodes_written, IsFitWritten, is_of_fact, is_written_alike, counting_behind, counting}
 use Rattle.cep_refusal.specs.First.{wrong}

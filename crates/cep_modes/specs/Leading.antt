@@ -1,5 +1,5 @@
 -- Private. Which numbers lead to marked ones by calls.
-use Rattle.std.specs.Prelude.{◌≡◌, ◌↔◌, ℕ, ◌<◌, Bool, true, false, List, length, slice_get, slice_set, Some}
+use Rattle.std.specs.Prelude.{◌≡◌, ◌↔◌, ℕ, ◌<◌, Bool, true, false, List, length, slice_set}
 use Rattle.std.specs.List.{AllByRecursion, Contains}
 use Rattle.cep_rule.specs.Patterns.{ClauseTree}
 use Rattle.cep_rule.specs.Groundness.{IsBad}

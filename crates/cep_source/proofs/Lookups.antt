@@ -1,5 +1,5 @@
 -- At which place of a list a name stands, and what stands there.
-use Rattle.std.proofs.Common.{◌≡◌, ℕ, zero, suc, ◌+◌, ◌<◌, Bool, true, false, not, List, [], ◌∷◌, ◌++◌, map, Some, None, Option, length, take, get_or, refl, ap, sym, subst, ◌∙◌, cond, nat_lt}
+use Rattle.std.proofs.Common.{◌≡◌, ℕ, ◌+◌, ◌<◌, Bool, true, false, not, List, [], ◌∷◌, ◌++◌, map, Some, None, Option, length, take, get_or, refl, ap, sym, subst, ◌∙◌, cond, nat_lt}
 use Rattle.std.specs.Option.{option_map, option_and_then}
 use Rattle.std.specs.List.{position, position_or_len, prefix_len, find, slice_get}
 use Rattle.std.specs.Str.{bytes_eq}

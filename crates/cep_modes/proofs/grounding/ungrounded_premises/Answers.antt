@@ -1,4 +1,4 @@
-use Rattle.std.proofs.Common.{◌≡◌, ◌<◌, List, Bool, length, map, subst, sym, arith, ap, ◌∙◌}
+use Rattle.std.proofs.Common.{◌<◌, List, Bool, length, subst, sym, arith}
 use Rattle.std.specs.List.{AllByRecursion}
 use Rattle.std.proofs.lemmas.List.{take_all}
 use Rattle.cep_base.proofs.Lists.{holds_at}
@@ -7,7 +7,7 @@ use Rattle.cep_rule.specs.declared.parts.Parts.{Parts}
 use Rattle.cep_rule.specs.Binding.{needed_of}
 use Rattle.cep_rule.specs.TypeLaws.{TypeLaws}
 use Rattle.cep_modes.specs.Grounding.{AreInOrder, AreAllMarks}
-use Rattle.cep_modes.specs.Places.{holds, IsPlain, rule_places, all_places}
+use Rattle.cep_modes.specs.Places.{IsPlain, rule_places, all_places}
 use Rattle.cep_modes.specs.Leading.{TellsBad}
 use Rattle.cep_modes.proofs.Orderly.{IsFineRule, fine_rules, plain_premises, plain_backs}
 use Rattle.cep_modes.proofs.Firsts.{rule_within, marks_say, one_more_marked}

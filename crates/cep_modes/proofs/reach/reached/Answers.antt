@@ -1,4 +1,4 @@
-use Rattle.std.proofs.Common.{List, ◌≡◌, ◌+◌, ◌*◌, ◌<◌, ◌≤◌, ◌-◌, ◌++◌, ◌∙◌, ℕ, length, refl, ap, sym, Some, slice_get, subst, arith}
+use Rattle.std.proofs.Common.{List, ◌≡◌, ◌+◌, ◌*◌, ◌<◌, ◌≤◌, ◌-◌, ◌∙◌, ℕ, length, refl, ap, sym, Some, slice_get, subst, arith}
 use Rattle.std.specs.List.{AllByRecursion}
 use Rattle.std.proofs.lemmas.Option.{slice_get_read}
 use Rattle.cep_modes.specs.Places.{holds, callees}
