@@ -17,7 +17,7 @@ pub(crate) fn read_term(alloc: Global, terms: &Keys, id: u64) -> Result<Term, Al
 {
     let key = terms.get(id);
     let args = read_args(alloc, terms, ids_in(key))?;
-    Ok(Term::App(head_in(key), Box::new(alloc, args)?))
+    Term::app(alloc, head_in(key), args)
 }
 
 // The arguments with these ids.
@@ -32,7 +32,7 @@ pub(crate) fn read_args(alloc: Global, terms: &Keys, ids: &[u64]) -> Result<Args
         Some((id, rest)) => {
             let t = read_term(alloc, terms, *id)?;
             let rest = read_args(alloc, terms, rest)?;
-            Ok(Args::Cons(t, Box::new(alloc, rest)?))
+            Args::cons(alloc, t, rest)
         }
     }
 }

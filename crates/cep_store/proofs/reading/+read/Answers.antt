@@ -1,4 +1,5 @@
 use Rattle.std.proofs.Common.{◌≡◌, ◌<◌, drop, Some, ap, ◌∙◌, sym, subst, arith}
+use Rattle.std.proofs.lemmas.Result.{IfOk-weaker}
 use Rattle.cep_term.specs.Tree.{trees_of, node}
 use Rattle.cep_store.specs.Held.{args_by}
 use Rattle.cep_store.specs.Keys.{terms_by}
@@ -19,10 +20,11 @@ read_args-read_args-requires t c =
     let parts = all_parts _ _ _ _ is c.requires.there in
     (omega arith, (c.requires.keys, parts.1))
 
-pub read_args-returns-in_ok-new-in-Some : goal.read_args-returns-in_ok-new-in-Some
-read_args-returns-in_ok-new-in-Some t c =
-    args_read (terms_by c.args.terms.now) c.args.ids.now c.in-Some.id.now c.in-Some.rest.now _ _ c.in-Some.ensures.cases.0 c.in_ok-t-in-Some.ensures
-    (ap trees_of c.in_ok-new-in-Some.ensures.ok ∙ c.in_ok-rest-in-Some.ensures)
+pub read_args-returns-in_ok-rest-in-Some : goal.read_args-returns-in_ok-rest-in-Some
+read_args-returns-in_ok-rest-in-Some t c =
+    IfOk-weaker c.cons.result _ _
+    (λ args is. is ∙ args_read (terms_by c.args.terms.now) c.args.ids.now c.in-Some.id.now c.in-Some.rest.now _ _ c.in-Some.ensures.cases.0 c.in_ok-t-in-Some.ensures c.in_ok-rest-in-Some.ensures)
+    c.cons.ensures
 
 pub read_term-ids_in-requires : goal.read_term-ids_in-requires
 read_term-ids_in-requires t c = (held_parts c.args.terms.now c.args.id c.get-key.result.now c.requires.keys c.get-key.ensures).some
@@ -41,7 +43,7 @@ read_term-head_in-requires t c =
 
 pub read_term-returns : goal.read_term-returns
 read_term-returns t c =
-    let args : trees_of c.in_ok-new.field-0.value ≡ args_by (terms_by c.args.terms.now) (drop 1 c.get-key.result.now) =
-    ap trees_of c.in_ok-new.ensures.ok ∙ c.in_ok-args.ensures ∙ ap (args_by (terms_by c.args.terms.now)) c.ids_in.ensures in
-    reads_held c.args.terms.now c.args.id c.get-key.result.now c.requires.keys c.get-key.ensures
-    ∙ sym (λ i. Some (node (c.head_in.ensures i) (args i)))
+    let args : trees_of c.in_ok-args.args ≡ args_by (terms_by c.args.terms.now) (drop 1 c.get-key.result.now) = c.in_ok-args.ensures ∙ ap (args_by (terms_by c.args.terms.now)) c.ids_in.ensures in
+    IfOk-weaker c.app.result _ _
+    (λ t is. rw is (reads_held c.args.terms.now c.args.id c.get-key.result.now c.requires.keys c.get-key.ensures ∙ sym (λ i. Some (node (c.head_in.ensures i) (args i)))))
+    c.app.ensures
