@@ -1,5 +1,5 @@
 -- What lines of each kind say.
-use Rattle.std.proofs.Common.{◌≡◌, inr, ℕ, zero, suc, ◌<◌, ◌≤◌, ◌^◌, List, [], ◌∷◌, ◌++◌, length, Bool, true, false, Option, Some, None, bytes_eq, refl, sym, ap, ◌∙◌, subst, arith}
+use Rattle.std.proofs.Common.{◌≡◌, ℕ, zero, suc, ◌<◌, ◌≤◌, ◌^◌, List, [], ◌∷◌, ◌++◌, length, Bool, true, false, Option, Some, None, bytes_eq, refl, sym, ap, ◌∙◌, arith}
 use Rattle.std.specs.Prelude.{codes, decimal, slice_get, MatchOption, Contains, IsTrue, not, ◌↔◌}
 use Rattle.std.proofs.lemmas.Fmt.{decimal_injective}
 use Rattle.std.proofs.lemmas.Slice.Eq.{bytes_eq-Decides}
@@ -8,10 +8,9 @@ use Rattle.cep_base.specs.declared.limits.TheConstants.{MOST_COPIES}
 use Rattle.cep_term.specs.Tree.{AtomTree}
 use Rattle.cep_rule.specs.declared.rule.Rule.{Rule}
 use Rattle.cep_rule.specs.declared.parts.Parts.{Parts}
-use Rattle.cep_rule.specs.declared.parts.Stage.{Stage}
 use Rattle.cep_text.specs.Reads.{IsAtomText}
 use Rattle.cep_text.specs.StageNames.{IsStageNamed}
-use Rattle.cep_lines.specs.Lines.{stage_name, state_text}
+use Rattle.cep_lines.specs.Lines.{state_text}
 use Rattle.cep_log.specs.Transcript.{IsHaveLine, IsStageLine, NamesNoRule}
 use Rattle.cep_log.proofs.Parted.{HasNone, Stops, one_parting}
 use Rattle.cep_log.proofs.Once.{decimal_unspaced, one_count}

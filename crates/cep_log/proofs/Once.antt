@@ -27,7 +27,7 @@ use Rattle.cep_lines.specs.declared.version.Version.TheVariants.{One, Two}
 use Rattle.cep_log.specs.declared.so_far.SoFar.{SoFar}
 use Rattle.cep_log.specs.declared.so_far.SoFar.TheVariants.{Nothing, Begun, Height, Whole, Within, Unlisted, Listed, Ended}
 use Rattle.cep_lines.specs.Lines.{version_text, stage_name, ending_word}
-use Rattle.cep_log.specs.Transcript.{IsHaveLine, IsStageLine, IsStepLine, IsByLine, GoesOnListing, GoesOnStep, BeginsStep, BeginsNext, Becomes, MovesOn, Leads, log_begun, step_begun, end_begun, log_listed, with_step}
+use Rattle.cep_log.specs.Transcript.{IsHaveLine, IsStageLine, IsStepLine, IsByLine, GoesOnListing, GoesOnStep, BeginsStep, BeginsNext, Becomes, MovesOn, Leads, log_begun, step_begun, log_listed, with_step}
 use Rattle.cep_log.proofs.Parted.{HasNone, one_parting}
 
 -- Numbers

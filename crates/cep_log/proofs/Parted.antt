@@ -11,9 +11,6 @@ HasNone stop bytes = AllByRecursion (λ byte. byte ≢ stop) bytes
 abbrev pub Stops : ℕ → List ℕ → Type 0
 Stops stop rest = (rest ≡ []) ⊎ ((behind : List ℕ) × (rest ≡ stop ∷ behind))
 
-pub not_cons : {A : Type 0} {B : Type 0} (x : A) (xs : List A) → x ∷ xs ≡ [] → B
-not_cons x xs e = absurd cc
-
 stops_not_within : (stop byte : ℕ) (bytes rest : List ℕ) → byte ≢ stop → Stops stop rest → rest ≡ byte ∷ bytes → ⊥
 stops_not_within stop byte bytes rest other stops e = cases stops where
   cases : Stops stop rest → ⊥

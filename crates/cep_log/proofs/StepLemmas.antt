@@ -72,10 +72,6 @@ stage_said program parts line log step rule stage new is at full said joined = r
   own = inr (stage, full, said, joined);
 }
 
-pub stage_none : (program parts : Parts) (line : List ℕ) (log : Log) (step : LogStep) (rule : Rule) → parts ≡ program → slice_get parts.rules step.offer.rule ≡ Some rule
-    → length rule.backs ≤ length step.proofs → ((stage : ℕ) → ¬ (IsStageLine program line stage)) → (new : SoFar) → GoesOnStep program line log step new → ⊥
-stage_none program parts line log step rule is at full none new goes = grind (arith, some_same, goes.own, goes.rule, step.offer.rule, goes.numbered, step.proofs, goes.rule.backs)
-
 pub not_some : {A : Type 0} (r : Option A) (P : Type 0) (Q : A → Type 0) → ((x : A) → r ≡ Some x → ⊥) → MatchOption r P Q → P
 not_some None P Q other p = p
 not_some (Some x) P Q other q = absurd (other x refl)
