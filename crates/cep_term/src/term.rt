@@ -38,7 +38,7 @@ impl Term {
 }
 
 impl Args {
-    /// These arguments with one more in front. Only out of memory is refused.
+    /// One argument before these. Only out of memory is refused.
     pub fn cons(alloc: Global, first: Term, rest: Args) -> Result<Args, AllocError>
         ensures { IfOk result (λ args. trees_of args ≡ more (tree_of first) (trees_of rest)) }
     {
