@@ -105,7 +105,7 @@ fn not_contained(
     let needed = needed_atoms(alloc, rule, values)?;
     let signature = &program.parts().signature;
     let left = gained(alloc, signature, &Bag::new(alloc), &needed)?;
-    let left = Bag::of(alloc, &left)?;
+    let left = Bag::of(alloc, left)?;
     match first_lack(&left, state) {
         None => Ok(None),
         Some(lack) => Ok(Some(Cause::NotContained {

@@ -67,7 +67,7 @@ pub(crate) fn weigh(
     match weigh_edit(state, nodes, &taken, &gains) {
         Weight::TooFull(number) => Ok(Weighed::Passes(Limit::State, number)),
         Weight::Fits(nodes) => Ok(Weighed::Within(Change {
-            taken: Bag::of(alloc, &taken)?,
+            taken: Bag::of(alloc, taken)?,
             added,
             gains,
             nodes,

@@ -1,5 +1,5 @@
 -- Atoms and whole multisets that are added to a multiset and taken from it one by one.
-use Rattle.std.proofs.Common.{◌≡◌, ℕ, ◌+◌, ◌-◌, ◌≤◌, Bool, true, false, cond, List, [], ◌∷◌, take, Some, Result, Ok, Err, ◌↔◌, refl, sym, ap, subst, ◌∙◌, arith}
+use Rattle.std.proofs.Common.{◌≡◌, ℕ, ◌+◌, ◌-◌, ◌≤◌, Bool, true, false, cond, List, [], ◌∷◌, length, map, take, Some, Result, Ok, Err, ◌↔◌, refl, sym, ap, subst, ◌∙◌, arith}
 use Rattle.std.specs.Prelude.{slice_get, fold, OnOk, OnErr, IsErr}
 use Rattle.std.specs.List.{AllByRecursion}
 use Rattle.std.specs.Ordering.{eq_by_cmp}
@@ -17,6 +17,11 @@ use Rattle.cep_term.proofs.Multisets.{copies_empty, count_le_copies, copies_with
 -- nothing is added yet
 pub sum_none : (bag : Multiset) → bag ≡ sum_of bag (gathered [])
 sum_none bag = sym (ap (λ es. fold (λ (so_far : Multiset) e. with_count so_far e.0 (count_of so_far e.0 + e.1)) bag es) entries_empty)
+
+-- and nothing is left to add
+pub sum_ended : {A : Type 0} (f : A → AtomTree) (bag : Multiset) (rest : List A) → length rest ≡ 0 → sum_of bag (gathered (map f rest)) ≡ bag
+sum_ended f bag [] none = sym (sum_none bag)
+sum_ended f bag (x ∷ rest) none = absurd (omega arith)
 
 -- the sum with nothing before it
 pub sum_alone : (bag : Multiset) → IsBag bag → sum_of finite.empty bag ≡ bag
@@ -37,6 +42,15 @@ sum_more bag atoms n a kept known is =
     ∙ sum_groups bag (gathered before) (gathered (a ∷ [])) kept (bag_gathered before front) (bag_gathered (a ∷ []) one)
     ∙ ap (λ z. sum_of bag z) (sym (gathered-append before (a ∷ []) front one))
     ∙ ap (λ xs. sum_of bag (gathered xs)) (sym (take_next atoms n a is))
+
+-- an atom that was added is none of those that are still to come
+pub sum_onward : (bag : Multiset) (a : AtomTree) (rest : List AtomTree) → IsBag bag → AllByRecursion IsGroundAtom (a ∷ rest) → sum_of (with_one bag a) (gathered rest) ≡ sum_of bag (gathered (a ∷ rest))
+sum_onward bag a rest kept known =
+    let others = bag_gathered rest known.1 in
+    sum_with_one bag (gathered rest) a known.0 kept others
+    ∙ ap (λ (z : Multiset). with_one z a) (sum_commutes bag (gathered rest) kept others)
+    ∙ sym (sum_with_one (gathered rest) bag a known.0 others kept)
+    ∙ sum_commutes (with_one (gathered rest) a) bag (bag_gathered (a ∷ rest) known) kept
 
 pub bag_with_one : (bag new : Multiset) (a : AtomTree) → IsGroundAtom a → IsBag bag → new ≡ with_one bag a → IsBag new
 bag_with_one bag new a ground kept is = subst IsBag (sym is) (bag_set_count bag a (count_of bag a + 1) ground kept)

@@ -63,6 +63,13 @@ impl AtomList {
         self.atoms.as_slice()
     }
 
+    // The atoms themselves.
+    pub(crate) fn into_atoms(self) -> Vec<Atom>
+        ensures { map atom_of result.items ≡ self }
+    {
+        self.atoms
+    }
+
     /// Adds an atom at the end. After out of memory the list is as before, and the atom is gone.
     pub fn push(&mut self, atom: Atom) -> Result<(), AllocError>
         ensures ok { OnOk result (self.new ≡ self.old ++ atom_of atom ∷ []) }

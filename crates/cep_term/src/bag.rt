@@ -63,13 +63,16 @@ impl Bag {
 
     /// The multiset of a list of ground atoms. Only out of memory is refused.
     #[tactic(auto, using(crate::proofs::Additions::added))]
-    pub fn of(alloc: Global, atoms: &AtomList) -> Result<Bag, AllocError>
-        requires known { AllByRecursion IsGroundAtom atoms.now }
-        requires few { length atoms.now < 2 ^ 32 }
-        ensures { IfOk result (λ bag. bag ≡ gathered atoms.now) }
+    pub fn of(alloc: Global, atoms: AtomList) -> Result<Bag, AllocError>
+        requires known { AllByRecursion IsGroundAtom atoms }
+        requires few { length atoms < 2 ^ 32 }
+        ensures { IfOk result (λ bag. bag ≡ gathered atoms) }
     {
         let mut bag = Bag::new(alloc);
-        bag.add_all(atoms)?;
+        bag.each_is_kept();
+        for atom in atoms.into_atoms() {
+            bag.put(atom)?;
+        }
         Ok(bag)
     }
 
@@ -91,6 +94,20 @@ impl Bag {
         ensures err { OnErr result (self.new ≡ self.old) }
     {
         self.blocks.add(self.alloc, a)?;
+        self.copies += 1;
+        Ok(())
+    }
+
+    // Adds one copy of a ground atom, which is kept where it is new.
+    #[tactic(auto, using(crate::proofs::Seen::seen))]
+    fn put(&mut self, a: Atom) -> Result<(), AllocError>
+        requires known { IsGroundAtom (atom_of a) }
+        requires few { count_of self.old (atom_of a) < 2 ^ 32 - 1 }
+        requires few_in_all { copies_in self.old < 2 ^ 64 - 1 }
+        ensures ok { OnOk result (self.new ≡ with_one self.old (atom_of a)) }
+        ensures err { OnErr result (self.new ≡ self.old) }
+    {
+        self.blocks.put(self.alloc, a)?;
         self.copies += 1;
         Ok(())
     }

@@ -9,7 +9,7 @@ ghost use Rattle.cep_term.specs.Entries.{entry_of, entries_of, IsRising, find_co
 ghost use Rattle.cep_term.specs.Entries.{entries_in, begins_by, HaveEntries, IsBlockFor};
 
 use crate::comparing::order;
-use crate::entries::{Entry, Missing, add_copy, copy_entries, count_among, take_copy};
+use crate::entries::{Entry, Missing, add_copy, copy_entries, count_among, put_copy, take_copy};
 use crate::term::Atom;
 use std::alloc::{AllocError, Global};
 
@@ -62,6 +62,23 @@ impl Blocks {
         match self.roomy_block(a)? {
             None => add_copy(alloc, &mut self.first, a),
             Some(at) => add_copy(alloc, &mut self.later[at], a),
+        }
+    }
+
+    // Adds one copy of the atom, which is kept where it is new.
+    #[tactic(auto, using(crate::proofs::BlockEdits::in_block))]
+    pub fn put(&mut self, alloc: Global, a: Atom) -> Result<(), AllocError>
+        requires filled { HaveEntries self.old.later.items }
+        requires rising { IsRising (entries_in self.old) }
+        requires few { find_count (entries_in self.old) (atom_of a) < 2 ^ 32 - 1 }
+        ensures ok { OnOk result (entries_in self.new
+            ≡ one_more_among (entries_in self.old) (atom_of a)) }
+        ensures err { OnErr result (entries_in self.new ≡ entries_in self.old) }
+        ensures filled { HaveEntries self.new.later.items }
+    {
+        match self.roomy_block(&a)? {
+            None => put_copy(alloc, &mut self.first, a),
+            Some(at) => put_copy(alloc, &mut self.later[at], a),
         }
     }
 

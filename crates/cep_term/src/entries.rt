@@ -86,6 +86,29 @@ pub fn add_copy(alloc: Global, entries: &mut Vec<Entry>, a: &Atom) -> Result<(),
     }
 }
 
+// Adds one copy of the atom, which is kept where it is new.
+#[tactic(auto, using(crate::proofs::EntryEdits::one_more))]
+pub fn put_copy(alloc: Global, entries: &mut Vec<Entry>, a: Atom) -> Result<(), AllocError>
+    requires rising { IsRising (entries_of entries.old.items) }
+    requires few { find_count (entries_of entries.old.items) (atom_of a) < 2 ^ 32 - 1 }
+    ensures ok { OnOk result (entries_of entries.new.items
+        ≡ one_more_among (entries_of entries.old.items) (atom_of a)) }
+    ensures err { OnErr result (entries_of entries.new.items ≡ entries_of entries.old.items) }
+    ensures as_many { length entries.old.items ≤ length entries.new.items }
+{
+    match place(entries, &a) {
+        Ok(at) => {
+            entries[at].count += 1;
+            Ok(())
+        }
+        Err(at) => {
+            let atom = Box::new(alloc, a)?;
+            entries.insert(at, Entry { atom, count: 1 })?;
+            Ok(())
+        }
+    }
+}
+
 // Takes one copy of the atom, or answers `Missing` if there is none.
 #[tactic(auto, using(crate::proofs::EntryEdits::copies))]
 pub fn take_copy(entries: &mut Vec<Entry>, a: &Atom) -> Result<(), Missing>
