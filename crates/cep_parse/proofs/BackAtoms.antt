@@ -18,7 +18,6 @@ use Rattle.cep_parse.specs.Machine.{child_in, set_args}
 use Rattle.cep_parse.proofs.Nodes.{set_args_at}
 use Rattle.cep_parse.proofs.Residual.{UpFlat, UpArgs, UpWhole, Up, AtomRest}
 use Rattle.cep_parse.proofs.Runs.{TakesArgs}
-use Rattle.cep_parse.proofs.Runs.TakesArgs.{flat, within}
 
 -- what completes an atom so far
 abbrev pub RestOf : AtomSoFar → List Symbol → RawAtom → Type 0
@@ -27,10 +26,7 @@ RestOf a part atom = AtomRest a.levels a.name a.args a.nodes part atom
 -- where a term ended
 pub up_of : (levels : List Level) (name : Span) (args : ℕ) (nodes : List RawNode) (part : List Symbol) (atom : RawAtom)
     → RestOf (child_in levels (record { name = name; args = args; nodes = nodes; levels = levels })) part atom → Up levels name args nodes part atom
-up_of [] name args nodes part atom h = h
-up_of (Node index count ∷ levels) name args nodes part atom h = h
-up_of (Empty ∷ levels) name args nodes part atom h = h
-up_of (Whole ∷ levels) name args nodes part atom h = h
+up_of levels name args nodes part atom h = grind arith
 
 -- an argument before the others of an atom
 flat_back : (first : List Symbol) (more : List RawNode) → Arg first more → (name : Span) (args : ℕ) (nodes : List RawNode) (part : List Symbol) (atom : RawAtom) → UpFlat name (args + 1) (nodes ++ more) part atom → UpFlat name args nodes (first ++ part) atom
@@ -56,8 +52,7 @@ node_back After first more h nodes args part up = record {
 
 -- an argument before the others
 pub arg_back : (levels : List Level) → TakesArgs levels → (first : List Symbol) (more : List RawNode) → Arg first more → (name : Span) (args : ℕ) (nodes : List RawNode) (part : List Symbol) (atom : RawAtom) → Up levels name args (nodes ++ more) part atom → AtomRest levels name args nodes (first ++ part) atom
-arg_back levels flat first more h name args nodes part atom up = flat_back first more h name args nodes part atom up
-arg_back levels (within index count lower) first more h name args nodes part atom up = node_back (λ all total rest. Up lower name args (set_args all index total) rest atom) first more h nodes count part up
+arg_back levels given first more h name args nodes part atom up = grind (arith, flat_back, node_back)
 
 -- a parenthesis before a term
 pub open_back : (levels : List Level) → TakesArgs levels → (x : Span) (name : Span) (args : ℕ) (nodes : List RawNode) (part : List Symbol) (atom : RawAtom) → AtomRest (Empty ∷ levels) name args nodes part atom → AtomRest levels name args nodes (at word.Open x ∷ part) atom

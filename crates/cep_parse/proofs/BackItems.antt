@@ -112,14 +112,11 @@ names_item name args s rest i up =
     (head_item [] None no_label name.from (at word.Name name ∷ (names args ++ up.front)) up.atom h up.behind i refl (λ dot. bare_clause dot (at word.Name name ∷ (names args ++ up.front)) up.atom h) up.after)
 
 named_back : (name : Span) (args : List Span) (x : Span) (rest : List Symbol) (i : RawItem) → NextRest (names_begun name args) rest i → Item (at word.Name name ∷ (names args ++ at word.Colon x ∷ rest)) i
-named_back name [] x rest i h = h x
-named_back name (a ∷ args) x rest i h = h x
+named_back name args x rest i h = grind arith
 
 -- after names
 names_back : (name : Span) (args : List Span) (w : Word) (x : Span) (rest : List Symbol) (i : RawItem) → NextRest (step_names name args w x) rest i → Item (at word.Name name ∷ (names args ++ at w x ∷ rest)) i
-names_back name args word.Name x rest i h = subst (λ r. Item (at word.Name name ∷ r) i) (names_push args x rest) h
-names_back name args word.Colon x rest i h = named_back name args x rest i h
-names_back name args w x rest i h = names_item name args (at w x) rest i (atom_back' [] name (length args) (map (λ a. node App a 0) args) (use_.First name.from None) w x rest i h)
+names_back name args w x rest i h = grind (arith, names_push, named_back, names_item, atom_back')
 
 -- after the colon of names
 declared_back : (name : Span) (args : List Span) (w : Word) (x : Span) (rest : List Symbol) (i : RawItem) → NextRest (step_declared name args w x) rest i → (c : Span) → Item (at word.Name name ∷ (names args ++ at word.Colon c ∷ at w x ∷ rest)) i
@@ -148,15 +145,13 @@ blank_back place _ x rest i h b is = absurd h
 
 -- after `stage`
 stage_word_back : (place : ℕ) (w : Word) (x : Span) (rest : List Symbol) (i : RawItem) → NextRest (stage_word place w x) rest i → (s : Span) → s.from ≡ place → Item (at word.Stage s ∷ at w x ∷ rest) i
-stage_word_back place word.Name x rest i h = h
-stage_word_back place _ x rest i h = absurd h
+stage_word_back place w x rest i h = grind arith
 
 stage_outer : (place : ℕ) (a : Span) (w : Word) (x : Span) (rest : List Symbol) (i : RawItem) → LeftRest Stars None place None (elem.Stage a ∷ []) (at w x ∷ rest) i → (s : Span) → s.from ≡ place → Item (at word.Stage s ∷ at word.Name a ∷ at w x ∷ rest) i
 stage_outer place a w x rest i up s is = outer_item [] None no_label place (at word.Stage s ∷ at word.Name a ∷ at w x ∷ rest) i (sym is) (elem_back_left None (at word.Stage s ∷ at word.Name a ∷ []) (elem.Stage a ∷ []) (elem_stage false s a) place None [] (at w x ∷ rest) i up)
 
 stage_named_back : (place : ℕ) (a : Span) (w : Word) (x : Span) (rest : List Symbol) (i : RawItem) → NextRest (stage_begun place a w) rest i → (s : Span) → s.from ≡ place → Item (at word.Stage s ∷ at word.Name a ∷ at w x ∷ rest) i
-stage_named_back place a word.Equals x rest i h s is = h s x
-stage_named_back place a w x rest i h s is = stage_outer place a w x rest i (behind_left_back None place None (elem.Stage a ∷ []) w x rest i h) s is
+stage_named_back place a w x rest i h s is = grind (arith, stage_outer, behind_left_back)
 
 stage_equals_back : (a : Span) (w : Word) (x : Span) (rest : List Symbol) (i : RawItem) → NextRest (stage_equals a w) rest i → (s e : Span) → Item (at word.Stage s ∷ at word.Name a ∷ at word.Equals e ∷ at w x ∷ rest) i
 stage_equals_back a word.OpenBrace x rest i up s e =
@@ -166,12 +161,10 @@ stage_equals_back a _ x rest i h s e = absurd h
 
 -- after `context`
 context_word_back : (w : Word) (x : Span) (rest : List Symbol) (i : RawItem) → NextRest (context_word w x) rest i → (c : Span) → Item (at word.Context c ∷ at w x ∷ rest) i
-context_word_back word.Name x rest i h = h
-context_word_back _ x rest i h = absurd h
+context_word_back w x rest i h = grind arith
 
 context_named_back : (a : Span) (w : Word) (x : Span) (rest : List Symbol) (i : RawItem) → NextRest (context_begun a w) rest i → (c : Span) → Item (at word.Context c ∷ at word.Name a ∷ at w x ∷ rest) i
-context_named_back a word.Equals x rest i h c = h c x
-context_named_back a _ x rest i h c = absurd h
+context_named_back a w x rest i h c = grind arith
 
 context_equals_back : (a : Span) (w : Word) (x : Span) (rest : List Symbol) (i : RawItem) → NextRest (context_equals a w) rest i → (c e : Span) → Item (at word.Context c ∷ at word.Name a ∷ at word.Equals e ∷ at w x ∷ rest) i
 context_equals_back a word.OpenBrace x rest i up c e =
@@ -190,8 +183,7 @@ trace_word_back place word.Number x rest i h d is = h d (at word.Number x) is (n
 trace_word_back place _ x rest i h d is = absurd h
 
 trace_limit_back : (place : ℕ) (limit : Option Span) (w : Word) (x : Span) (rest : List Symbol) (i : RawItem) → NextRest (trace_limit place limit w x) rest i → (d : Span) (m : Symbol) → d.from ≡ place → Limit m limit → Item (at word.Trace d ∷ m ∷ at w x ∷ rest) i
-trace_limit_back place limit word.Name x rest i h = h
-trace_limit_back place limit _ x rest i h = absurd h
+trace_limit_back place limit w x rest i h = grind arith
 
 trace_stage_back : (place : ℕ) (limit : Option Span) (a : Span) (w : Word) (x : Span) (rest : List Symbol) (i : RawItem) → NextRest (trace_stage place limit a w x) rest i
     → (d : Span) (m : Symbol) → d.from ≡ place → Limit m limit → Item (at word.Trace d ∷ m ∷ at word.Name a ∷ at w x ∷ rest) i

@@ -72,24 +72,18 @@ pub before_elem_back : (right : Option (List RawElem)) (stage : Option StageSoFa
     → NextRest (before_elem (record { stage = stage; at = place; label = label; left = left; right = right }) w x) rest i → SideRest Elems right stage place label left (at w x ∷ rest) i
 before_elem_back right stage place label left word.Name x rest i h = atom_back right stage place label left x rest i h
 before_elem_back None stage place label left word.Dollar x rest i h = h x
-before_elem_back (Some right) stage place label left word.Dollar x rest i h = absurd h
 before_elem_back right stage place label left word.Open x rest i h = h x
 before_elem_back None None place label left word.Qui x rest i h = elem_back_left None (at word.Qui x ∷ []) (elem.Qui x ∷ []) (qui x) place label left rest i h
-before_elem_back None (Some stage) place label left word.Qui x rest i h = absurd h
-before_elem_back (Some right) None place label left word.Qui x rest i h = absurd h
-before_elem_back (Some right) (Some stage) place label left word.Qui x rest i h = absurd h
 before_elem_back right None place label left word.Stage x rest i h = h x
-before_elem_back right (Some stage) place label left word.Stage x rest i h = absurd h
-before_elem_back right stage place label left _ x rest i h = absurd h
+before_elem_back right stage place label left w x rest i h = grind arith
 
 -- after `$`
 kept_back : (right : Option (List RawElem)) (stage : Option StageSoFar) (place : ℕ) (label : Option Span) (left : List RawElem) (w : Word) (x : Span) (rest : List Symbol) (i : RawItem)
     → NextRest (behind_dollar (record { stage = stage; at = place; label = label; left = left; right = right }) w x) rest i → KeptRest right stage place label left (at w x ∷ rest) i
-kept_back (Some right) stage place label left w x rest i h = tt
 kept_back None stage place label left word.Name x rest i up = λ y.
     subst (λ r. LeftRest Elems stage place label left (at word.Dollar y ∷ at word.Name x ∷ r) i) (sym up.cut)
     (elem_back_left stage (at word.Dollar y ∷ at word.Name x ∷ up.front) (elem.Atom true up.atom ∷ []) (kept (is_none stage) y _ up.atom (whole_atom_of x up.front up.atom up.read)) place label left up.behind i up.after)
-kept_back None stage place label left _ x rest i h = absurd h
+kept_back right stage place label left w x rest i h = grind arith
 
 -- after `(`
 unit_back : (right : Option (List RawElem)) (stage : Option StageSoFar) (place : ℕ) (label : Option Span) (left : List RawElem) (w : Word) (x : Span) (rest : List Symbol) (i : RawItem)
@@ -101,10 +95,9 @@ unit_back right stage place label left _ x rest i h y = absurd h
 -- after `stage`
 stage_back : (stage : Option StageSoFar) (right : Option (List RawElem)) (place : ℕ) (label : Option Span) (left : List RawElem) (w : Word) (x : Span) (rest : List Symbol) (i : RawItem)
     → NextRest (behind_stage (record { stage = stage; at = place; label = label; left = left; right = right }) w x) rest i → StageRest stage right place label left (at w x ∷ rest) i
-stage_back (Some stage) right place label left w x rest i h = tt
 stage_back None None place label left word.Name x rest i h = λ y. elem_back_left None (at word.Stage y ∷ at word.Name x ∷ []) (elem.Stage x ∷ []) (elem_stage false y x) place label left rest i h
 stage_back None (Some right) place label left word.Name x rest i h = λ y. elem_back_right None (at word.Stage y ∷ at word.Name x ∷ []) (elem.Stage x ∷ []) (elem_stage true y x) place label left right rest i h
-stage_back None right place label left _ x rest i h = absurd h
+stage_back stage right place label left w x rest i h = grind arith
 
 -- `*` before elements
 star_elems : (side : Side) (x : Span) (front : List Symbol) (more : List RawElem) → Elems side front more → Stars side (at word.Star x ∷ front) more
@@ -170,13 +163,8 @@ behind_right_back stage place label left right _ x rest i h = absurd h
 -- after an element
 pub behind_elem_back : (right : Option (List RawElem)) (stage : Option StageSoFar) (place : ℕ) (label : Option Span) (left : List RawElem) (w : Word) (x : Span) (rest : List Symbol) (i : RawItem)
     → NextRest (behind_in right (record { stage = stage; at = place; label = label; left = left; right = right }) w) rest i → SideRest Stars right stage place label left (at w x ∷ rest) i
-behind_elem_back None stage place label left w x rest i h = behind_left_back stage place label left w x rest i h
-behind_elem_back (Some right) stage place label left w x rest i h = behind_right_back stage place label left right w x rest i h
+behind_elem_back right stage place label left w x rest i h = grind (arith, behind_left_back, behind_right_back)
 
 -- in a rule
 pub rule_back : (r : RuleSoFar) (place : RulePlace) (w : Word) (x : Span) (rest : List Symbol) (i : RawItem) → NextRest (step_rule r place w x) rest i → RuleRest place r (at w x ∷ rest) i
-rule_back r rule.Before w x rest i h = before_elem_back r.right r.stage r.at r.label r.left w x rest i h
-rule_back r rule.Kept w x rest i h = kept_back r.right r.stage r.at r.label r.left w x rest i h
-rule_back r rule.Unit w x rest i h = unit_back r.right r.stage r.at r.label r.left w x rest i h
-rule_back r rule.Stage w x rest i h = stage_back r.stage r.right r.at r.label r.left w x rest i h
-rule_back r rule.Behind w x rest i h = behind_elem_back r.right r.stage r.at r.label r.left w x rest i h
+rule_back r place w x rest i h = grind (arith, before_elem_back, kept_back, unit_back, stage_back, behind_elem_back)

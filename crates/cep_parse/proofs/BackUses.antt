@@ -1,5 +1,5 @@
 -- The same for what stands after an atom, and for atoms.
-use Rattle.std.proofs.Common.{◌≡◌, ℕ, ◌+◌, Bool, false, List, [], ◌∷◌, ◌++◌, length, Option, None, Some, refl, sym, ap, subst, ◌∙◌, append_assoc}
+use Rattle.std.proofs.Common.{◌≡◌, ℕ, ◌+◌, Bool, false, List, [], ◌∷◌, ◌++◌, length, Option, None, Some, refl, sym, ap, subst, ◌∙◌, append_assoc, arith}
 use Rattle.std.proofs.lemmas.List.{append-nil}
 use Rattle.cep_parse.specs.declared.raw.Span.{Span}
 use Rattle.cep_parse.specs.declared.raw.RawAtom.{RawAtom}
@@ -46,8 +46,7 @@ use Rattle.cep_parse.proofs.BackRules.{behind_elem_back, behind_left_back, whole
 
 -- the dot of an item
 pub ending_back : (given : RawItem) (w : Word) (x : Span) (rest : List Symbol) (i : RawItem) → NextRest (step_ending given w) rest i → DotRest given (at w x ∷ rest) i
-ending_back given word.Dot x rest i h = record { dot = x; cut = ap (λ r. at word.Dot x ∷ r) h.0; is = h.1 }
-ending_back given _ x rest i h = absurd h
+ending_back given w x rest i h = grind arith
 
 -- in the braces of a stage
 pub rules_back : (stage : StageSoFar) (w : Word) (x : Span) (rest : List Symbol) (i : RawItem) → NextRest (step_rules stage w x) rest i → RulesRest stage (at w x ∷ rest) i
@@ -58,9 +57,7 @@ rules_back stage _ x rest i h = absurd h
 -- the parts of a rule, and what stands after it
 regroup_rule : (before : List Symbol) (arrow : Symbol) (after : List Symbol) (dot_ : Symbol) (front rest : List Symbol)
     → ((before ++ arrow ∷ (after ++ dot_ ∷ [])) ++ front) ++ rest ≡ before ++ arrow ∷ (after ++ dot_ ∷ (front ++ rest))
-regroup_rule before arrow after dot_ front rest =
-    append_assoc (before ++ arrow ∷ (after ++ dot_ ∷ [])) front rest ∙ append_assoc before (arrow ∷ (after ++ dot_ ∷ [])) (front ++ rest)
-    ∙ ap (λ r. before ++ arrow ∷ r) (append_assoc after (dot_ ∷ []) (front ++ rest))
+regroup_rule before arrow after dot_ front rest = simp (append_assoc)
 
 -- after the label of a rule there
 pub rule_named_back : (stage : StageSoFar) (a : Span) (w : Word) (x : Span) (rest : List Symbol) (i : RawItem) → NextRest (rule_named stage a w) rest i → RulesRest stage (at word.Name a ∷ at w x ∷ rest) i
@@ -113,8 +110,7 @@ bag_some home_ atoms first fs h behind i up = record {
 }
 
 bag_end_of : (home_ : BagHome) (atoms : List RawAtom) (rest : List Symbol) (i : RawItem) → NextRest (bag_ended home_ atoms) rest i → BagEnd home_ atoms rest i
-bag_end_of (home.Context name) atoms rest i h = h
-bag_end_of (home.Trace place limit stage) atoms rest i h = h
+bag_end_of home_ atoms rest i h = grind arith
 
 bag_first_back : (b : BagSoFar) (w : Word) (x : Span) (rest : List Symbol) (i : RawItem) → NextRest (bag_first b w x) rest i → BagFirstRest b.home b.atoms (at w x ∷ rest) i
 bag_first_back b word.Name x rest i up =
@@ -132,8 +128,7 @@ bag_next_back b word.Open x rest i up = record { front = at word.Open x ∷ at w
 bag_next_back b _ x rest i h = absurd h
 
 bag_unit_back : (b : BagSoFar) (w : Word) (x : Span) (rest : List Symbol) (i : RawItem) → NextRest (bag_unit b w) rest i → BagUnitRest b.home b.atoms (at w x ∷ rest) i
-bag_unit_back b word.Close x rest i h = record { close = x; behind = rest; cut = refl; after = h }
-bag_unit_back b _ x rest i h = absurd h
+bag_unit_back b w x rest i h = grind arith
 
 bag_more_of : (home_ : BagHome) (atoms : List RawAtom) (mark : Word) (x : Span) → IsOneOf word.Comma word.Star mark → (rest : List Symbol) (i : RawItem) → BagElemRest home_ atoms rest i → BagMoreRest home_ atoms (at mark x ∷ rest) i
 bag_more_of home_ atoms mark x is rest i up = record {
@@ -154,10 +149,7 @@ bag_behind_back b _ x rest i h = absurd h
 
 -- in a bag
 pub bag_back : (b : BagSoFar) (place : BagPlace) (w : Word) (x : Span) (rest : List Symbol) (i : RawItem) → NextRest (step_bag b place w x) rest i → BagRest place b (at w x ∷ rest) i
-bag_back b bag.First w x rest i h = bag_first_back b w x rest i h
-bag_back b bag.Next w x rest i h = bag_next_back b w x rest i h
-bag_back b bag.Unit w x rest i h = bag_unit_back b w x rest i h
-bag_back b bag.Behind w x rest i h = bag_behind_back b w x rest i h
+bag_back b place w x rest i h = grind (arith, bag_first_back, bag_next_back, bag_unit_back, bag_behind_back)
 
 -- after the first atom of a clause or of an outer rule
 head_back' : (place : ℕ) (label : Option Span) (head : RawAtom) (w : Word) (x : Span) (rest : List Symbol) (i : RawItem) → NextRest (behind_head place label head w) rest i → HeadRest place label head (at w x ∷ rest) i
@@ -171,8 +163,7 @@ head_back' place label head _ x rest i h = absurd h
 use_elem_back : (right : Option (List RawElem)) (stage : Option StageSoFar) (place : ℕ) (label : Option Span) (left : List RawElem) (keeps : Bool) (a : RawAtom) (w : Word) (x : Span) (rest : List Symbol) (i : RawItem)
     → NextRest (behind_atom (use_.Elem (record { stage = stage; at = place; label = label; left = left; right = right }) keeps) a w) rest i
     → UseRest (use_.Elem (record { stage = stage; at = place; label = label; left = left; right = right }) keeps) a (at w x ∷ rest) i
-use_elem_back None stage place label left keeps a w x rest i h = behind_elem_back None stage place label (left ++ elem.Atom keeps a ∷ []) w x rest i h
-use_elem_back (Some right) stage place label left keeps a w x rest i h = behind_elem_back (Some (right ++ elem.Atom keeps a ∷ [])) stage place label left w x rest i h
+use_elem_back right stage place label left keeps a w x rest i h = grind (arith, behind_elem_back)
 
 -- after an atom
 pub use_back : (used : Use) (a : RawAtom) (w : Word) (x : Span) (rest : List Symbol) (i : RawItem) → NextRest (behind_atom used a w) rest i → UseRest used a (at w x ∷ rest) i
@@ -210,11 +201,9 @@ atom_back' (Node index count ∷ levels) name args nodes used word.Variable x re
 atom_back' (Node index count ∷ levels) name args nodes used word.Blank x rest i up = within_atom (Node index count ∷ levels) (Node index (count + 1) ∷ levels) name args args nodes (nodes ++ node kind.Blank x 0 ∷ []) used (at word.Blank x) rest i (leaf_back (Node index count ∷ levels) (within index count levels) name args nodes (at word.Blank x) (node kind.Blank x 0) (arg_blank x)) up
 atom_back' (Node index count ∷ levels) name args nodes used word.Open x rest i up = within_atom (Node index count ∷ levels) (Empty ∷ Node index count ∷ levels) name args args nodes nodes used (at word.Open x) rest i (open_back (Node index count ∷ levels) (within index count levels) x name args nodes) up
 atom_back' (Node index count ∷ levels) name args nodes used word.Close x rest i up = record { front = at word.Close x ∷ up.front; behind = up.behind; atom = up.atom; cut = ap (λ r. at word.Close x ∷ r) up.cut; read = closed_back levels index count x name args nodes up.front up.atom (up_of levels name args (set_args nodes index count) up.front up.atom (up.read)); after = up.after }
-atom_back' (Node index count ∷ levels) name args nodes used _ x rest i h = absurd h
 atom_back' (Empty ∷ levels) name args nodes used word.Name x rest i up = within_atom (Empty ∷ levels) (Node (length nodes) 0 ∷ levels) name args args nodes (nodes ++ node App x 0 ∷ []) used (at word.Name x) rest i (head_back levels x name args nodes) up
 atom_back' (Empty ∷ levels) name args nodes used word.Variable x rest i up = within_atom (Empty ∷ levels) (Whole ∷ levels) name args args nodes (nodes ++ node Var x 0 ∷ []) used (at word.Variable x) rest i (one_back levels (at word.Variable x) (node Var x 0) (variable x) name args nodes) up
 atom_back' (Empty ∷ levels) name args nodes used word.Blank x rest i up = within_atom (Empty ∷ levels) (Whole ∷ levels) name args args nodes (nodes ++ node kind.Blank x 0 ∷ []) used (at word.Blank x) rest i (one_back levels (at word.Blank x) (node kind.Blank x 0) (blank x) name args nodes) up
 atom_back' (Empty ∷ levels) name args nodes used word.Open x rest i up = within_atom (Empty ∷ levels) (Empty ∷ Empty ∷ levels) name args args nodes nodes used (at word.Open x) rest i (again_back levels x name args nodes) up
-atom_back' (Empty ∷ levels) name args nodes used _ x rest i h = absurd h
 atom_back' (Whole ∷ levels) name args nodes used word.Close x rest i up = record { front = at word.Close x ∷ up.front; behind = up.behind; atom = up.atom; cut = ap (λ r. at word.Close x ∷ r) up.cut; read = whole_back levels x name args nodes up.front up.atom (up_of levels name args nodes up.front up.atom (up.read)); after = up.after }
-atom_back' (Whole ∷ levels) name args nodes used _ x rest i h = absurd h
+atom_back' levels name args nodes used _ x rest i h = absurd h

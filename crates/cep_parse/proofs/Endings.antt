@@ -189,10 +189,7 @@ use_ends (use_.Elem r keeps) a = let e = rule_ends (with_elem r (elem.Atom keeps
 use_ends (use_.Bag b) a = let e = bag_more_ends b.home (b.atoms ++ a ∷ []) in record { rest = e.rest; i = e.i; read = e.read }
 
 in_atom_ends : (a : AtomSoFar) (used : Use) → Ends (InAtomRest a used)
-in_atom_ends a used =
-    let e = atom_ends a.levels a.name a.args a.nodes in
-    let f = use_ends used e.a in
-    record { rest = e.part ++ f.rest; i = f.i; read = record { front = e.part; behind = f.rest; atom = e.a; cut = refl; read = e.read; after = f.read } }
+in_atom_ends a used = let e = atom_ends a.levels a.name a.args a.nodes in let f = use_ends used e.a in record { rest = e.part ++ f.rest; i = f.i; read = record { front = e.part; behind = f.rest; atom = e.a; cut = refl; read = e.read; after = f.read } }
 
 rule_named_ends : (stage : StageSoFar) (a : Span) → Ends (λ rest i. RulesRest stage (at word.Name a ∷ rest) i)
 rule_named_ends stage a =

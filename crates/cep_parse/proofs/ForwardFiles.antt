@@ -1,5 +1,5 @@
 -- A derivation of a file runs to it, so symbols are one raw file at most.
-use Rattle.std.proofs.Common.{◌≡◌, Bool, true, false, List, [], ◌∷◌, ◌++◌, Option, None, Some, refl, sym, ap, ◌∙◌, append_assoc}
+use Rattle.std.proofs.Common.{◌≡◌, Bool, false, List, [], ◌∷◌, ◌++◌, Option, None, Some, refl, sym, ap, ◌∙◌, append_assoc, arith}
 use Rattle.std.proofs.lemmas.List.{append-nil}
 use Rattle.cep_parse.specs.declared.raw.Span.{Span}
 use Rattle.cep_parse.specs.declared.raw.RawElem.{RawElem}
@@ -11,11 +11,10 @@ use Rattle.cep_parse.specs.declared.state.Plain.TheVariants as plain
 use Rattle.cep_parse.specs.declared.state.State.TheVariants as state
 use Rattle.cep_parse.specs.Grammar.{at, Side, Elem, Item, File}
 use Rattle.cep_parse.specs.Grammar.Atom.{atom}
-use Rattle.cep_parse.specs.Grammar.Elem.{unit as elem_unit, atom as elem_atom, kept, qui, stage as elem_stage}
 use Rattle.cep_parse.specs.Grammar.Elems.{elems}
 use Rattle.cep_parse.specs.Grammar.Sides.{sides}
-use Rattle.cep_parse.specs.Grammar.Label.{none as no_label, named as a_label}
-use Rattle.cep_parse.specs.Grammar.Item.{sort, pred, back as back_pred, fact as fact_pred, colon, bare_clause, labelled, clause, outer, unnamed, stage as stage_item, context, interactive, trace_named, trace_listed}
+use Rattle.cep_parse.specs.Grammar.Label.{none as no_label}
+use Rattle.cep_parse.specs.Grammar.Item.{bare_clause, clause, outer, unnamed, stage as stage_item, context, interactive, trace_named, trace_listed}
 use Rattle.cep_parse.specs.Grammar.File.{none as no_items, more as more_items}
 use Rattle.cep_parse.specs.Machine.{step}
 use Rattle.cep_parse.proofs.Runs.{Config, moved, run, run_from, state_behind}
@@ -31,47 +30,28 @@ record StartsAfresh (symbols : List Symbol) : Type 0 where
 
 -- the elements of a side begin so
 elem_starts : (side : Side) (symbols : List Symbol) (es : List RawElem) → Elem side symbols es → (rest : List Symbol) → StartsAfresh (symbols ++ rest)
-elem_starts side symbols es (elem_unit side' open_ close) rest = record { word_ = word.Open; x = open_; rest = at word.Close close ∷ rest; is = refl; same = refl }
-elem_starts side symbols es (elem_atom side' inner a (atom name args count nodes h)) rest = record { word_ = word.Name; x = name; rest = args ++ rest; is = refl; same = refl }
-elem_starts side symbols es (kept outer' dollar inner a h) rest = record { word_ = word.Dollar; x = dollar; rest = inner ++ rest; is = refl; same = refl }
-elem_starts side symbols es (qui a) rest = record { word_ = word.Qui; x = a; rest = rest; is = refl; same = refl }
-elem_starts side symbols es (elem_stage right stage_ a) rest = record { word_ = word.Stage; x = stage_; rest = at word.Name a ∷ rest; is = refl; same = refl }
+elem_starts side symbols es given rest = grind arith
 
 starts_name : (a : Span) (rest : List Symbol) → StartsAfresh (at word.Name a ∷ rest)
 starts_name a rest = record { word_ = word.Name; x = a; rest = rest; is = refl; same = refl }
 
 -- so does an item
 item_starts : (symbols : List Symbol) (i : RawItem) → Item symbols i → StartsAfresh symbols
-item_starts symbols i (sort a colon_ type_ x) = starts_name a _
-item_starts symbols i (pred a colon_ p x args) = starts_name a _
-item_starts symbols i (back_pred a colon_ p x args) = starts_name a _
-item_starts symbols i (fact_pred a colon_ p x args) = starts_name a _
-item_starts symbols i (colon a colon_ b x args) = starts_name a _
 item_starts symbols i (bare_clause x inner head (atom name args count nodes h)) = starts_name name _
-item_starts symbols i (labelled a colon_ x inner head h some) = starts_name a _
 item_starts symbols i (clause arrow x before inner first' others label head goal goals no_label (atom name args count nodes h) g k) = starts_name name _
-item_starts symbols i (clause arrow x before inner first' others label head goal goals (a_label a colon_) h g k) = starts_name a _
-item_starts symbols i (outer before inner label left right no_label (sides outer' arrow x before' after left' right' (elems side first' others fs gs one' stars) g)) =
-    let e : (first' ++ others) ++ at word.Lolli arrow ∷ (after ++ at word.Dot x ∷ []) ≡ first' ++ (others ++ at word.Lolli arrow ∷ (after ++ at word.Dot x ∷ [])) = append_assoc first' others _ in
-    let starts = elem_starts side first' fs one' (others ++ at word.Lolli arrow ∷ (after ++ at word.Dot x ∷ [])) in
-    record { word_ = starts.word_; x = starts.x; rest = starts.rest; is = e ∙ starts.is; same = starts.same }
-item_starts symbols i (outer before inner label left right (a_label a colon_) h) = starts_name a _
+item_starts symbols i (outer before inner label left right no_label (sides outer' arrow x before' after left' right' (elems side first' others fs gs one' stars) g)) = grind (arith, append_assoc, elem_starts)
 item_starts symbols i (unnamed blank colon_ inner left right h) = record { word_ = word.Blank; x = blank; rest = at word.Colon colon_ ∷ inner; is = refl; same = refl }
 item_starts symbols i (stage_item stage_ a equals open_ close inner ending rules' h d) = record { word_ = word.Stage; x = stage_; rest = _; is = refl; same = refl }
 item_starts symbols i (context context_ a equals open_ inner ending atoms h d) = record { word_ = word.Context; x = context_; rest = _; is = refl; same = refl }
 item_starts symbols i (interactive directive a x) = record { word_ = word.Interactive; x = directive; rest = _; is = refl; same = refl }
 item_starts symbols i (trace_named directive stage_ a x mark limit l) = record { word_ = word.Trace; x = directive; rest = _; is = refl; same = refl }
 item_starts symbols i (trace_listed directive stage_ open_ x mark limit inner atoms l h) = record { word_ = word.Trace; x = directive; rest = _; is = refl; same = refl }
+item_starts symbols i given = grind (arith, starts_name)
 
 -- an item runs alike after one that a dot may end
 from_behind : (b : Bool) (symbols : List Symbol) (i : RawItem) → Item symbols i → (items : List RawItem) (rest : List Symbol)
     → run items (state_behind b) (symbols ++ rest) ≡ run items (state.Plain plain.Top) (symbols ++ rest)
-from_behind false symbols i h items rest = refl
-from_behind true symbols i h items rest =
-    let starts = item_starts symbols i h in
-    ap (λ s. run items (state.Plain plain.Ended) (s ++ rest)) starts.is
-    ∙ ap (λ n. run_from (moved items n) (starts.rest ++ rest)) starts.same
-    ∙ sym (ap (λ s. run items (state.Plain plain.Top) (s ++ rest)) starts.is)
+from_behind b symbols i h items rest = grind (arith, item_starts, run, run_from, moved)
 
 -- a file is read to its end
 pub record IsRead (symbols : List Symbol) (file : List RawItem) (from : Bool) (items : List RawItem) : Type 0 where

@@ -24,7 +24,7 @@ use Rattle.cep_parse.specs.declared.state.State.TheVariants as state
 use Rattle.cep_parse.specs.declared.state.Use.TheVariants as use_
 use Rattle.cep_parse.specs.Grammar.{at, names, place_of, Args, Atom, Side, Elem, Stars, Goals, BagElem, BagMore, Bag, MayDot, Limit, Item}
 use Rattle.cep_parse.specs.Grammar.Atom.{atom}
-use Rattle.cep_parse.specs.Grammar.Elem.{unit as elem_unit, atom as elem_atom, kept, qui, stage as elem_stage}
+use Rattle.cep_parse.specs.Grammar.Elem.{atom as elem_atom, kept, stage as elem_stage}
 use Rattle.cep_parse.specs.Grammar.Stars.{none as no_stars, more as more_stars}
 use Rattle.cep_parse.specs.Grammar.Elems.{elems}
 use Rattle.cep_parse.specs.Grammar.Sides.{sides}
@@ -33,16 +33,14 @@ use Rattle.cep_parse.specs.Grammar.IsOneOf.{one, other}
 use Rattle.cep_parse.specs.Grammar.BagElem.{unit as bag_unit, atom as bag_atom}
 use Rattle.cep_parse.specs.Grammar.BagMore.{none as no_atoms, more as more_atoms}
 use Rattle.cep_parse.specs.Grammar.Bag.{empty as empty_bag, some as some_bag}
-use Rattle.cep_parse.specs.Grammar.MayDot.{none as no_dot, dot as a_dot}
 use Rattle.cep_parse.specs.Grammar.Label.{none as no_label, named as a_label}
-use Rattle.cep_parse.specs.Grammar.Limit.{blank as blank_limit, number as number_limit}
-use Rattle.cep_parse.specs.Grammar.Item.{sort, pred, back as back_pred, fact as fact_pred, colon, bare_clause, labelled, clause, outer, unnamed, stage as stage_item, context, interactive, trace_named, trace_listed}
+use Rattle.cep_parse.specs.Grammar.Item.{pred, back as back_pred, fact as fact_pred, colon, bare_clause, labelled, clause, outer, unnamed, stage as stage_item, context, trace_named, trace_listed}
 use Rattle.cep_parse.specs.Machine.{atom_begun, bag_ended}
 use Rattle.cep_parse.proofs.Runs.{moved, run, run_from, atom_at, state_behind}
 use Rattle.cep_parse.proofs.ForwardAtoms.{names_run, StandsBehind}
 use Rattle.cep_parse.proofs.ForwardAtoms.StandsBehind.{dot as stands_dot, back as stands_back, star as stands_star, lolli as stands_lolli}
 use Rattle.cep_parse.proofs.ForwardRules as rules
-use Rattle.cep_parse.proofs.ForwardRules.{atom_runs, rule_at, EndsElem, regroup, stars_end, sides_run, sides_run_behind, rules_run}
+use Rattle.cep_parse.proofs.ForwardRules.{atom_runs, rule_at, EndsElem, regroup, sides_run, sides_run_behind, rules_run}
 use Rattle.cep_parse.proofs.ForwardRules.EndsElem.{star as ends_star, lolli as ends_lolli}
 
 -- goals after the first, up to the dot
@@ -181,25 +179,21 @@ ends_elem mark first_lolli = ends_lolli
 pub first_elem_runs : (symbols : List Symbol) (es : List RawElem) → Elem (record { outer = true; right = false }) symbols es
     → (items : List RawItem) (mark : Word) (x : Span) (rest : List Symbol) → EndsFirst mark
     → run items (state.Plain plain.Top) (symbols ++ at mark x ∷ rest) ≡ run items (rule_at None (place_of symbols) None es None rule.Behind) (at mark x ∷ rest)
-first_elem_runs symbols es (elem_unit side open_ close) items mark x rest ends = refl
-first_elem_runs symbols es (elem_atom side inner a (atom name args count nodes h)) items mark x rest ends =
-    head_runs args count nodes h items name mark x rest (stands_of mark ends) ∙ head_is_elem items name.from None name count nodes mark x rest ends
+first_elem_runs symbols es (elem_atom side inner a (atom name args count nodes h)) items mark x rest ends = rw (head_runs args count nodes h items name mark x rest (stands_of mark ends), head_is_elem items name.from None name count nodes mark x rest ends)
 first_elem_runs symbols es (kept outer' dollar inner a (atom name args count nodes h)) items mark x rest ends =
     rules.left_elem_runs true _ _ (kept true dollar inner a (atom name args count nodes h)) items None dollar.from None [] mark x rest refl (ends_elem mark ends)
-first_elem_runs symbols es (qui a) items mark x rest ends = refl
 first_elem_runs symbols es (elem_stage right stage_ a) items mark x rest ends = stage_is_elem items stage_.from a mark x rest ends
+first_elem_runs symbols es given items mark x rest ends = refl
 
 -- the same after a label
 labelled_elem_runs : (symbols : List Symbol) (es : List RawElem) → Elem (record { outer = true; right = false }) symbols es
     → (items : List RawItem) (a : Span) (mark : Word) (x : Span) (rest : List Symbol) → EndsFirst mark
     → run items (state.Plain (plain.Labelled a)) (symbols ++ at mark x ∷ rest) ≡ run items (rule_at None a.from (Some a) es None rule.Behind) (at mark x ∷ rest)
-labelled_elem_runs symbols es (elem_unit side open_ close) items a mark x rest ends = refl
 labelled_elem_runs symbols es (elem_atom side inner b (atom name args count nodes h)) items a mark x rest ends =
     atom_runs args count nodes h items name (use_.First a.from (Some a)) (at mark x ∷ rest) ∙ head_is_elem items a.from (Some a) name count nodes mark x rest ends
 labelled_elem_runs symbols es (kept outer' dollar inner b (atom name args count nodes h)) items a mark x rest ends =
     rules.left_elem_runs true _ _ (kept true dollar inner b (atom name args count nodes h)) items None a.from (Some a) [] mark x rest refl (ends_elem mark ends)
-labelled_elem_runs symbols es (qui q) items a mark x rest ends = refl
-labelled_elem_runs symbols es (elem_stage right stage_ s) items a mark x rest ends = refl
+labelled_elem_runs symbols es given items a mark x rest ends = refl
 
 -- what the elements after the first of a left side begin with
 record EndsFirstSo (symbols : List Symbol) : Type 0 where
@@ -215,11 +209,7 @@ left_end side symbols es (more_stars side' s first' others fs gs one' stars) x r
 
 -- the place of the first element is that of the side
 place_first : (side : Side) (symbols : List Symbol) (es : List RawElem) (others rest : List Symbol) → Elem side symbols es → place_of ((symbols ++ others) ++ rest) ≡ place_of symbols
-place_first side symbols es others rest (elem_unit side' open_ close) = refl
-place_first side symbols es others rest (elem_atom side' inner a (atom name args count nodes h)) = refl
-place_first side symbols es others rest (kept outer' dollar inner a h) = refl
-place_first side symbols es others rest (qui a) = refl
-place_first side symbols es others rest (elem_stage right stage_ a) = refl
+place_first side symbols es others rest given = grind arith
 
 -- the item ended, and a dot may end it still
 pub record RunsTo (symbols : List Symbol) (i : RawItem) (items : List RawItem) (rest : List Symbol) : Type 0 where
@@ -233,35 +223,29 @@ dotted symbols i items rest is = record { may_dot = false; is = is }
 -- declarations with names
 pred_runs : (a colon_ p x : Span) (args : List Span) (items : List RawItem) (rest : List Symbol)
     → run items (state.Names a args) (at word.Colon colon_ ∷ at word.Pred p ∷ at word.Dot x ∷ rest) ≡ run (items ++ item.Pred a args Linear ∷ []) (state.Plain plain.Top) rest
-pred_runs a colon_ p x [] items rest = refl
-pred_runs a colon_ p x (b ∷ args) items rest = refl
+pred_runs a colon_ p x args items rest = grind arith
 
 bwd_runs : (a colon_ p x : Span) (args : List Span) (items : List RawItem) (rest : List Symbol)
     → run items (state.Names a args) (at word.Colon colon_ ∷ at word.Bwd p ∷ at word.Dot x ∷ rest) ≡ run (items ++ item.Pred a args Back ∷ []) (state.Plain plain.Top) rest
-bwd_runs a colon_ p x [] items rest = refl
-bwd_runs a colon_ p x (b ∷ args) items rest = refl
+bwd_runs a colon_ p x args items rest = grind arith
 
 fact_runs : (a colon_ p x : Span) (args : List Span) (items : List RawItem) (rest : List Symbol)
     → run items (state.Names a args) (at word.Colon colon_ ∷ at word.Fact p ∷ at word.Dot x ∷ rest) ≡ run (items ++ item.Pred a args Fact ∷ []) (state.Plain plain.Top) rest
-fact_runs a colon_ p x [] items rest = refl
-fact_runs a colon_ p x (b ∷ args) items rest = refl
+fact_runs a colon_ p x args items rest = grind arith
 
 colon_runs : (a colon_ b x : Span) (args : List Span) (items : List RawItem) (rest : List Symbol)
     → run items (state.Names a args) (at word.Colon colon_ ∷ at word.Name b ∷ at word.Dot x ∷ rest) ≡ run (items ++ item.Colon a args b ∷ []) (state.Plain plain.Top) rest
-colon_runs a colon_ b x [] items rest = refl
-colon_runs a colon_ b x (c ∷ args) items rest = refl
+colon_runs a colon_ b x args items rest = grind arith
 
 -- a dot that may stand after an item
 may_dot_runs : (ending : List Symbol) → MayDot ending → (items : List RawItem) (rest : List Symbol)
     → (b : Bool) × (run items (state.Plain plain.Ended) (ending ++ rest) ≡ run items (state_behind b) rest)
-may_dot_runs ending no_dot items rest = (true, refl)
-may_dot_runs ending (a_dot x) items rest = (false, refl)
+may_dot_runs ending given items rest = grind arith
 
 -- the limit of a trace
 limit_runs : (mark : Symbol) (limit : Option Span) → Limit mark limit → (items : List RawItem) (place : ℕ) (rest : List Symbol)
     → run items (state.Plain (plain.TraceWord place)) (mark ∷ rest) ≡ run items (state.Plain (plain.TraceLimit place limit)) rest
-limit_runs mark limit (blank_limit a) items place rest = refl
-limit_runs mark limit (number_limit a) items place rest = refl
+limit_runs mark limit given items place rest = grind arith
 
 -- a clause after its head
 clause_end : (arrow x : Span) (first' others : List Symbol) (label : Option Span) (head goal : RawAtom) (goals : List RawAtom) → Atom first' goal → Goals others goals → (items : List RawItem) (rest : List Symbol)
@@ -273,9 +257,7 @@ clause_end arrow x first' others label head goal goals (atom name inner count no
 -- the parts of a clause, regrouped
 regroup_clause : (args : List Symbol) (arrow : Symbol) (first' others : List Symbol) (x : Symbol) (rest : List Symbol)
     → (args ++ arrow ∷ (first' ++ (others ++ x ∷ []))) ++ rest ≡ args ++ arrow ∷ (first' ++ (others ++ x ∷ rest))
-regroup_clause args arrow first' others x rest =
-    append_assoc args (arrow ∷ (first' ++ (others ++ x ∷ []))) rest
-    ∙ ap (λ r. args ++ arrow ∷ r) (append_assoc first' (others ++ x ∷ []) rest ∙ ap (λ r. first' ++ r) (append_assoc others (x ∷ []) rest))
+regroup_clause args arrow first' others x rest = simp (append_assoc)
 
 -- the dot of a clause with a label, whose head has arguments
 labelled_dot : (items : List RawItem) (a name : Span) (count : ℕ) (nodes : List RawNode) (x : Span) (rest : List Symbol) → 0 < count
@@ -284,7 +266,6 @@ labelled_dot items a name count nodes x rest some = rw (ne_eqb count 0 (λ e. ab
 
 -- an item
 pub item_runs : (symbols : List Symbol) (i : RawItem) → Item symbols i → (items : List RawItem) (rest : List Symbol) → RunsTo symbols i items rest
-item_runs symbols i (sort a colon_ type_ x) items rest = dotted _ _ items rest refl
 item_runs symbols i (pred a colon_ p x args) items rest = dotted _ _ items rest (ap (run items (state.Names a [])) (append_assoc (names args) _ rest) ∙ decl_names_run args items a [] _ ∙ pred_runs a colon_ p x args items rest)
 item_runs symbols i (back_pred a colon_ p x args) items rest = dotted _ _ items rest (ap (run items (state.Names a [])) (append_assoc (names args) _ rest) ∙ decl_names_run args items a [] _ ∙ bwd_runs a colon_ p x args items rest)
 item_runs symbols i (fact_pred a colon_ p x args) items rest = dotted _ _ items rest (ap (run items (state.Names a [])) (append_assoc (names args) _ rest) ∙ decl_names_run args items a [] _ ∙ fact_runs a colon_ p x args items rest)
@@ -322,10 +303,10 @@ item_runs symbols i (stage_item stage_ a equals open_ close inner ending rules' 
 item_runs symbols i (context context_ a equals open_ inner ending atoms h d) items rest =
     let dot' = may_dot_runs ending d (items ++ item.Context a atoms ∷ []) rest in
     record { may_dot = dot'.0; is = ap (run items (bag_at (home.Context a) [] bag.First)) (append_assoc inner ending rest) ∙ bag_runs inner atoms h items (home.Context a) (ending ++ rest) ∙ dot'.1 }
-item_runs symbols i (interactive directive a x) items rest = dotted _ _ items rest refl
 item_runs symbols i (trace_named directive stage_ a x mark limit l) items rest = dotted _ _ items rest (limit_runs mark limit l items directive.from (at word.Name stage_ ∷ at word.Name a ∷ at word.Dot x ∷ rest))
 item_runs symbols i (trace_listed directive stage_ open_ x mark limit inner atoms l h) items rest =
     dotted _ _ items rest
     (limit_runs mark limit l items directive.from (at word.Name stage_ ∷ at word.OpenBrace open_ ∷ ((inner ++ at word.Dot x ∷ []) ++ rest))
     ∙ ap (run items (bag_at (home.Trace directive.from limit stage_) [] bag.First)) (append_assoc inner (at word.Dot x ∷ []) rest)
     ∙ bag_runs inner atoms h items (home.Trace directive.from limit stage_) (at word.Dot x ∷ rest))
+item_runs symbols i given items rest = grind (arith, dotted)

@@ -1,6 +1,5 @@
 -- A derivation of a rule's side, of goals or of a bag runs to what it gives.
 use Rattle.std.proofs.Common.{◌≡◌, ℕ, ◌+◌, Bool, true, false, List, [], ◌∷◌, ◌++◌, Option, None, Some, is_none, refl, sym, ap, ◌∙◌, arith, append_assoc}
-use Rattle.std.proofs.lemmas.Bool.{false≢true}
 use Rattle.std.proofs.lemmas.List.{append-nil}
 use Rattle.cep_parse.specs.declared.raw.Span.{Span}
 use Rattle.cep_parse.specs.declared.raw.RawElem.{RawElem}
@@ -20,7 +19,7 @@ use Rattle.cep_parse.specs.declared.state.Use.{Use}
 use Rattle.cep_parse.specs.declared.state.Use.TheVariants as use_
 use Rattle.cep_parse.specs.Grammar.{at, Args, Side, Elem, Stars, Elems, Sides, Rules}
 use Rattle.cep_parse.specs.Grammar.Atom.{atom}
-use Rattle.cep_parse.specs.Grammar.Elem.{unit as elem_unit, atom as elem_atom, kept, qui, stage as elem_stage}
+use Rattle.cep_parse.specs.Grammar.Elem.{unit as elem_unit, atom as elem_atom, kept}
 use Rattle.cep_parse.specs.Grammar.Stars.{none as no_stars, more as more_stars}
 use Rattle.cep_parse.specs.Grammar.Elems.{elems}
 use Rattle.cep_parse.specs.Grammar.Sides.{sides}
@@ -33,15 +32,12 @@ use Rattle.cep_parse.proofs.ForwardAtoms.{args_run}
 -- the arguments of an atom whose name was read
 pub atom_runs : (symbols : List Symbol) (count : ℕ) (nodes : List RawNode) → Args symbols count nodes → (items : List RawItem) (name : Span) (used : Use) (rest : List Symbol)
     → run items (state.Atom (atom_begun name) used) (symbols ++ rest) ≡ run items (atom_at name count nodes [] used) rest
-atom_runs symbols count nodes args items name used rest =
-    args_run symbols count nodes args items name 0 [] [] used rest flat ∙ (let e : 0 + count ≡ count = omega arith in λ i. run items (atom_at name (e i) nodes [] used) rest)
+atom_runs symbols count nodes args items name used rest = args_run symbols count nodes args items name 0 [] [] used rest flat ∙ (let e : 0 + count ≡ count = omega arith in λ i. run items (atom_at name (e i) nodes [] used) rest)
 
 -- the parts of a rule, regrouped
 pub regroup : (first others : List Symbol) (arrow : Symbol) (after : List Symbol) (dot_ : Symbol) (rest : List Symbol)
     → ((first ++ others) ++ arrow ∷ (after ++ dot_ ∷ [])) ++ rest ≡ first ++ (others ++ arrow ∷ (after ++ dot_ ∷ rest))
-regroup first others arrow after dot_ rest =
-    append_assoc (first ++ others) (arrow ∷ (after ++ dot_ ∷ [])) rest ∙ append_assoc first others _
-    ∙ ap (λ r. first ++ (others ++ arrow ∷ r)) (append_assoc after (dot_ ∷ []) rest)
+regroup first others arrow after dot_ rest = simp (append_assoc)
 
 -- a rule in reading, by its parts
 abbrev pub rule_at : Option StageSoFar → ℕ → Option Span → List RawElem → Option (List RawElem) → RulePlace → State
@@ -78,10 +74,7 @@ left_elem_runs outer symbols es (elem_atom side inner a (atom name args count no
     atom_runs args count nodes h items name (use_.Elem (record { stage = stage; at = place; label = label; left = left; right = None }) false) (at mark x ∷ rest) ∙ left_atom_ends items stage place label left false name count nodes mark x rest ends
 left_elem_runs outer symbols es (kept outer' dollar inner a (atom name args count nodes h)) items stage place label left mark x rest is ends =
     atom_runs args count nodes h items name (use_.Elem (record { stage = stage; at = place; label = label; left = left; right = None }) true) (at mark x ∷ rest) ∙ left_atom_ends items stage place label left true name count nodes mark x rest ends
-left_elem_runs outer symbols es (qui a) items None place label left mark x rest is ends = refl
-left_elem_runs outer symbols es (qui a) items (Some s) place label left mark x rest is ends = absurd (false≢true is)
-left_elem_runs outer symbols es (elem_stage right' stage_ a) items None place label left mark x rest is ends = refl
-left_elem_runs outer symbols es (elem_stage right' stage_ a) items (Some s) place label left mark x rest is ends = absurd (false≢true is)
+left_elem_runs outer symbols es given items stage place label left mark x rest is ends = grind arith
 
 -- an element on the right
 pub right_elem_runs : (outer : Bool) (symbols : List Symbol) (es : List RawElem) → Elem (record { outer = outer; right = true }) symbols es
@@ -90,8 +83,7 @@ pub right_elem_runs : (outer : Bool) (symbols : List Symbol) (es : List RawElem)
 right_elem_runs outer symbols es (elem_unit side open_ close) items stage place label left right mark x rest is ends = ap (λ l. run items (rule_at stage place label left (Some l) rule.Behind) (at mark x ∷ rest)) (sym (append-nil right))
 right_elem_runs outer symbols es (elem_atom side inner a (atom name args count nodes h)) items stage place label left right mark x rest is ends =
     atom_runs args count nodes h items name (use_.Elem (record { stage = stage; at = place; label = label; left = left; right = Some right }) false) (at mark x ∷ rest) ∙ right_atom_ends items stage place label left right name count nodes mark x rest ends
-right_elem_runs outer symbols es (elem_stage right' stage_ a) items None place label left right mark x rest is ends = refl
-right_elem_runs outer symbols es (elem_stage right' stage_ a) items (Some s) place label left right mark x rest is ends = absurd (false≢true is)
+right_elem_runs outer symbols es given items stage place label left right mark x rest is ends = grind arith
 
 -- what elements and their ending begin with ends the element before them
 pub record EndsSo (symbols : List Symbol) : Type 0 where

@@ -1,5 +1,5 @@
 -- The tokens of each text have a raw file, or a first fault.
-use Rattle.std.proofs.Common.{◌≡◌, ◌⊎◌, ℕ, ◌≤◌, Bool, true, false, List, [], ◌∷◌, ◌++◌, length, refl, sym, subst, ◌∙◌, inl, inr, ⊎_elim, arith, append_assoc, append-nil}
+use Rattle.std.proofs.Common.{◌≡◌, ◌⊎◌, ℕ, ◌≤◌, Bool, true, false, List, [], ◌∷◌, ◌++◌, length, refl, sym, subst, ◌∙◌, ⊎_elim, arith, append_assoc, append-nil}
 use Rattle.std.specs.Prelude.{Option, None, Some, Result, Ok, Err}
 use Rattle.std.proofs.lemmas.Bool.{cases_eq}
 use Rattle.cep_base.specs.declared.limits.TheConstants.{MOST_OPEN}
@@ -21,9 +21,7 @@ use Rattle.cep_parse.proofs.TokenLemmas.{open_within}
 
 -- a parenthesis is one too many, or no more are open than may be
 deep_or_not : (w : Word) (open_ : ℕ) → open_ ≤ MOST_OPEN → ((w ≡ word.Open) × (open_ ≡ MOST_OPEN)) ⊎ (open_behind w open_ ≤ MOST_OPEN)
-deep_or_not word.Open open_ within = ⊎_elim (λ full. inl (refl, full)) (λ less. inr (omega (arith, less))) (cases_eq open_ MOST_OPEN)
-deep_or_not word.Close open_ within = inr (omega arith)
-deep_or_not w open_ within = inr within
+deep_or_not w open_ within = grind (arith, cases_eq)
 
 module _ (text : List ℕ) (tokens : List Token) where
   abbrev symbols : List Symbol

@@ -43,8 +43,7 @@ with_next front next mid = sym (append_assoc front (next ∷ []) mid)
 
 -- no file begins so, and one does
 never_begins : (front : List Symbol) (next : Symbol) (mid more_ : List Symbol) → (Begins (front ++ next ∷ []) → ⊥) → Begins ((front ++ next ∷ mid) ++ more_) → ⊥
-never_begins front next mid more_ no_file is =
-    no_file (begins_before (front ++ next ∷ []) mid (subst Begins (with_next front next mid) (begins_before (front ++ next ∷ mid) more_ is)))
+never_begins front next mid more_ no_file is = grind (arith, begins_before, with_next)
 
 begins_whole : (symbols : List Symbol) → Begins symbols → Begins (symbols ++ [])
 begins_whole symbols is = subst Begins (sym (append-nil symbols)) is
@@ -71,24 +70,10 @@ too_deep : (symbols front rest : List Symbol) → IsShallow symbols → symbols 
 too_deep symbols front rest shallow cut deep = let most = shallow front rest cut in omega (arith, most, deep)
 
 nested_or_not : (symbols : List Symbol) (size place place' : ℕ) → IsUnexpected symbols size place → IsNested symbols place' → ⊥
-nested_or_not symbols size place place' (symbol front rest next cut shallow begins no_file at) nested =
-    by (compare front rest next nested.front nested.rest nested.next (sym cut ∙ nested.cut))
-  where
-    by : Compared front rest next nested.front nested.rest nested.next → ⊥
-    by (before mid is) = never_begins front next mid (nested.next ∷ []) no_file (subst (λ f. Begins (f ++ nested.next ∷ [])) is nested.begins)
-    by (same fronts nexts) = no_file (subst (λ n. Begins (front ++ n ∷ [])) (sym nexts) (subst (λ f. Begins (f ++ nested.next ∷ [])) (sym fronts) nested.begins))
-    by (behind mid is) = too_deep front (nested.front ++ nested.next ∷ []) mid shallow (is ∙ with_next nested.front nested.next mid) nested.deeper
-nested_or_not symbols size place place' (ended shallow begins no_end at) nested =
-    too_deep symbols (nested.front ++ nested.next ∷ []) nested.rest shallow (nested.cut ∙ with_next nested.front nested.next nested.rest) nested.deeper
+nested_or_not symbols size place place' given nested = grind (arith, compare, never_begins, too_deep, with_next)
 
 nested_once : (symbols : List Symbol) (place place' : ℕ) → IsNested symbols place → IsNested symbols place' → place ≡ place'
-nested_once symbols place place' one other =
-    by (compare one.front one.rest one.next other.front other.rest other.next (sym one.cut ∙ other.cut))
-  where
-    by : Compared one.front one.rest one.next other.front other.rest other.next → place ≡ place'
-    by (before mid is) = absurd (too_deep other.front (one.front ++ one.next ∷ []) mid other.shallow (is ∙ with_next one.front one.next mid) one.deeper)
-    by (same fronts nexts) = one.place_is ∙ ap (λ (s : Symbol). s.at.from) nexts ∙ sym other.place_is
-    by (behind mid is) = absurd (too_deep one.front (other.front ++ other.next ∷ []) mid one.shallow (is ∙ with_next other.front other.next mid) other.deeper)
+nested_once symbols place place' one other = grind (arith, compare, too_deep, with_next)
 
 -- a file has no fault
 whole_begins : (symbols : List Symbol) (items : List RawItem) → File symbols items → Begins symbols

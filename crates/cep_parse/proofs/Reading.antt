@@ -57,9 +57,7 @@ FileNext (ItemEnds i may_dot) rest more = (items : List RawItem) × (more ≡ i 
 FileNext Stop rest more = ⊥
 
 go_then : (s : State) → is_between (Go s) ≡ false → (rest : List Symbol) (more : List RawItem) → FileRest s rest more → ItemThen (Rest s) rest more
-go_then (state.Plain plain.Ended) h rest more r = absurd (false≢true (sym h))
-go_then (state.Plain plain.Top) h rest more r = absurd (false≢true (sym h))
-go_then s h rest more r = r
+go_then s h rest more r = grind arith
 
 -- a step that leads to no beginning of an item is within one
 then_of : (n : Next) → is_between n ≡ false → (rest : List Symbol) (more : List RawItem) → FileNext n rest more → ItemThen (NextRest n) rest more
@@ -72,9 +70,7 @@ then_of (ItemEnds i true) h rest more r =
 then_of Stop h rest more r = absurd r
 
 of_then : (s : State) → is_within s ≡ true → (rest : List Symbol) (more : List RawItem) → ItemThen (Rest s) rest more → FileRest s rest more
-of_then (state.Plain plain.Ended) h rest more r = absurd (false≢true h)
-of_then (state.Plain plain.Top) h rest more r = absurd (false≢true h)
-of_then s h rest more r = r
+of_then s h rest more r = grind arith
 
 -- a symbol before an item
 begin_file : (w : Word) (x : Span) (rest : List Symbol) (more : List RawItem) → FileNext (begin w x) rest more → File (at w x ∷ rest) more
@@ -88,14 +84,11 @@ within_file s h w x rest more r =
     of_then s h (at w x ∷ rest) more (record { part = at w x ∷ t.part; others = t.others; i = t.i; items = t.items; cut = ap (λ b. at w x ∷ b) t.cut; read = step_back s w x t.part t.i t.read; file = t.file; is = t.is })
 
 ended_file : (w : Word) (x : Span) (rest : List Symbol) (more : List RawItem) → FileNext (step (state.Plain plain.Ended) w x) rest more → FileRest (state.Plain plain.Ended) (at w x ∷ rest) more
-ended_file word.Dot x rest more r = inr (record { dot = x; others = rest; cut = refl; file = r })
-ended_file w x rest more r = inl (begin_file w x rest more r)
+ended_file w x rest more r = grind (arith, begin_file)
 
 -- what may stand after a symbol may, with it, stand after the state before it
 file_back : (s : State) (w : Word) (x : Span) (rest : List Symbol) (more : List RawItem) → FileNext (step s w x) rest more → FileRest s (at w x ∷ rest) more
-file_back (state.Plain plain.Ended) w x rest more r = ended_file w x rest more r
-file_back (state.Plain plain.Top) w x rest more r = begin_file w x rest more r
-file_back s w x rest more r = within_file s refl w x rest more r
+file_back s w x rest more r = grind (arith, ended_file, begin_file, within_file)
 
 -- What was read: with what may stand after the state it is a file.
 pub record Reads (items : List RawItem) (s : State) (front : List Symbol) : Type 0 where
@@ -103,14 +96,7 @@ pub record Reads (items : List RawItem) (s : State) (front : List Symbol) : Type
 
 reads_next : (items : List RawItem) (front : List Symbol) (sym_ : Symbol) (n : Next) → ((rest : List Symbol) (more : List RawItem) → FileNext n rest more → File (front ++ sym_ ∷ rest) (items ++ more))
     → (c : Config) → moved items n ≡ Some c → Reads c.items c.state (front ++ sym_ ∷ [])
-reads_next items front sym_ (Go s) back c is =
-    let e : record { items = items; state = s } ≡ c = cc in
-    subst (λ (c' : Config). Reads c'.items c'.state (front ++ sym_ ∷ [])) e (record { file = λ rest more r. subst (λ b. File b (items ++ more)) (sym (append_assoc front (sym_ ∷ []) rest)) (back rest more r) })
-reads_next items front sym_ (ItemEnds i may_dot) back c is =
-    let e : record { items = items ++ i ∷ []; state = state_behind may_dot } ≡ c = cc in
-    subst (λ (c' : Config). Reads c'.items c'.state (front ++ sym_ ∷ [])) e
-    (record { file = λ rest more r. subst (λ b. File b ((items ++ i ∷ []) ++ more)) (sym (append_assoc front (sym_ ∷ []) rest)) (subst (λ ms. File (front ++ sym_ ∷ rest) ms) (sym (append_assoc items (i ∷ []) more)) (back rest (i ∷ more) (more, refl, r))) })
-reads_next items front sym_ Stop back c is = cc
+reads_next items front sym_ n back c is = grind (arith, append_assoc)
 
 -- some file begins so
 begins_of : (items : List RawItem) (s : State) (front : List Symbol) → Reads items s front → Begins front
@@ -155,20 +141,12 @@ last_or_before (a ∷ front) s (t ∷ f) rest cut =
     ⊎_elim (λ whole. inl (λ i. sym same i ∷ whole i)) (λ before. inr (before.0, λ i. same i ∷ before.1 i)) (last_or_before front s f rest e)
 
 shallow_push : (front : List Symbol) (s : Symbol) → IsShallow front → open_from 0 (front ++ s ∷ []) ≤ MOST_OPEN → IsShallow (front ++ s ∷ [])
-shallow_push front s shallow within f rest cut =
-    ⊎_elim (λ whole. subst (λ b. open_from 0 b ≤ MOST_OPEN) (sym whole) within) (λ before. shallow f before.0 before.1) (last_or_before front s f rest cut)
+shallow_push front s shallow within f rest cut = grind (arith, last_or_before)
 
 -- one symbol on
 pub at_next : (front : List Symbol) (items : List RawItem) (s : State) (open_ : ℕ) (w : Word) (x : Span) (c : Config) → IsAt front items s open_ → moved items (step s w x) ≡ Some c → open_behind w open_ ≤ MOST_OPEN
     → IsAt (front ++ at w x ∷ []) c.items c.state (open_behind w open_)
-at_next front items s open_ w x c is goes within =
-    let behind : open_behind w open_ ≡ open_from 0 (front ++ at w x ∷ []) = ap (open_behind w) is.open_is ∙ sym (open_push front (at w x) 0) in
-    record {
-      ran = run_append (Some (record { items = []; state = state.Plain plain.Top })) front (at w x ∷ []) ∙ ap (λ at_. run_from at_ (at w x ∷ [])) is.ran ∙ goes;
-      reads = reads_next items front (at w x) (step s w x) (λ rest more r. is.reads.file (at w x ∷ rest) more (file_back s w x rest more r)) c goes;
-      open_is = behind;
-      shallow = shallow_push front (at w x) is.shallow (subst (λ n. n ≤ MOST_OPEN) behind within);
-    }
+at_next front items s open_ w x c is goes within = grind (arith, open_push front (at w x) 0, run_append, run_from, reads_next, file_back, shallow_push, is.open_is, is.ran, is.reads.file, is.shallow)
 
 -- a reading is not both on and stopped
 some_or_none : (c : Config) → Some c ≡ None → ⊥
@@ -184,8 +162,7 @@ no_file front rest items s w x ran stops file h =
 
 -- that symbol is unexpected
 pub stops_at : (symbols front rest : List Symbol) (items : List RawItem) (s : State) (open_ : ℕ) (w : Word) (x : Span) (size : ℕ) → IsAt front items s open_ → moved items (step s w x) ≡ None → symbols ≡ front ++ at w x ∷ rest → IsUnexpected symbols size x.from
-stops_at symbols front rest items s open_ w x size is stops cut =
-    at_symbol front rest (at w x) cut is.shallow (begins_of items s front is.reads) (λ b. no_file front b.more items s w x is.ran stops b.items b.file) refl
+stops_at symbols front rest items s open_ w x size is stops cut = at_symbol front rest (at w x) cut is.shallow (begins_of items s front is.reads) (λ b. no_file front b.more items s w x is.ran stops b.items b.file) refl
 
 -- a parenthesis is one too many
 pub nests_at : (symbols front rest : List Symbol) (items : List RawItem) (s : State) (open_ : ℕ) (w : Word) (x : Span) (c : Config) → IsAt front items s open_ → moved items (step s w x) ≡ Some c → w ≡ word.Open → open_ ≡ MOST_OPEN → symbols ≡ front ++ at w x ∷ rest → IsNested symbols x.from
@@ -211,8 +188,7 @@ pub ends_well : (symbols : List Symbol) (items : List RawItem) (s : State) (open
 ends_well symbols items s open_ is between = (between_file symbols items s between is.reads, is.shallow)
 
 behind_is_between : (b : Bool) → is_within (state_behind b) ≡ false
-behind_is_between true = refl
-behind_is_between false = refl
+behind_is_between b = grind arith
 
 abbrev state_of : Option Config → State
 state_of None = state.Plain plain.Top

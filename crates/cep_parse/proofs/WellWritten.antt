@@ -1,7 +1,7 @@
 -- What the grammar says of each item: the nodes of its atoms are their arguments, and its names and variables are tokens of these kinds.
-use Rattle.std.proofs.Common.{◌≡◌, ℕ, suc, ◌+◌, ◌≤◌, Bool, List, [], ◌∷◌, ◌++◌, length, refl, sym, subst, arith, append_assoc, length-append, Contains, if◌then◌else◌, true, false}
+use Rattle.std.proofs.Common.{◌≡◌, ℕ, suc, ◌+◌, ◌≤◌, Bool, List, [], ◌∷◌, ◌++◌, length, refl, sym, subst, arith, append_assoc, length-append, Contains, true, false}
 use Rattle.std.proofs.lemmas.List.{append-nil, length-map}
-use Rattle.std.specs.Prelude.{Option, None, codes, bytes_eq}
+use Rattle.std.specs.Prelude.{Option, None}
 use Rattle.std.specs.List.{AllByRecursion}
 use Rattle.cep_lex.specs.declared.token.Token.{Token}
 use Rattle.cep_lex.specs.declared.token.TokenKind.{TokenKind}
@@ -176,11 +176,7 @@ module _ (tokens : List Token) where
   }
 
   elem_well : (side : Side) (symbols : List Symbol) (elems : List RawElem) → grammar.Elem side symbols elems → AreSaid symbols → AreElems elems
-  elem_well _ _ _ (grammar.Elem.unit side open_ close) said = tt
-  elem_well _ _ _ (grammar.Elem.atom side symbols a is) said = (atom_well symbols a is said, tt)
-  elem_well _ _ _ (grammar.Elem.kept outer dollar symbols a is) said = (atom_well symbols a is (next _ _ said), tt)
-  elem_well _ _ _ (grammar.Elem.qui a) said = (said.all.0, tt)
-  elem_well _ _ _ (grammar.Elem.stage right stage_ a) said = ((next _ _ said).all.0, tt)
+  elem_well _ _' _'' given said = grind (arith, atom_well, next)
 
   stars_well : (side : Side) (symbols : List Symbol) (elems : List RawElem) → grammar.Stars side symbols elems → AreSaid symbols → AreElems elems
   stars_well _ _ _ (grammar.Stars.none side) said = tt
@@ -188,14 +184,10 @@ module _ (tokens : List Token) where
       both_all (IsElemOf tokens) elems others (elem_well side first elems is (front first rest (next _ _ said))) (stars_well side rest others further (back first rest (next _ _ said)))
 
   elems_well : (side : Side) (symbols : List Symbol) (elems : List RawElem) → grammar.Elems side symbols elems → AreSaid symbols → AreElems elems
-  elems_well _ _ _ (grammar.Elems.elems side first rest elems others is further) said =
-      both_all (IsElemOf tokens) elems others (elem_well side first elems is (front first rest said)) (stars_well side rest others further (back first rest said))
+  elems_well _ _ _ (grammar.Elems.elems side first rest elems others is further) said = grind (arith, both_all, elem_well, front, stars_well, back)
 
   sides_well : (outer : Bool) (symbols : List Symbol) (left right : List RawElem) → grammar.Sides outer symbols left right → AreSaid symbols → AreElems left × AreElems right
-  sides_well _ _ _ _ (grammar.Sides.sides outer arrow dot before after left right is is') said = (
-    elems_well _ before left is (front before _ said),
-    elems_well _ after right is' (front after _ (next _ _ (back before _ said))),
-  )
+  sides_well _ _ _ _ (grammar.Sides.sides outer arrow dot before after left right is is') said = grind (arith, elems_well, front, next, back)
 
   -- where a token begins
   begun_at : (kind : TokenKind) (span : Span) → IsTokenAt tokens kind span → IsTokenFrom tokens kind span.from
@@ -214,13 +206,11 @@ module _ (tokens : List Token) where
       elem_begun side first elems rest (at word.Lolli arrow ∷ (after ++ at word.Dot dot ∷ [])) is (front first rest (front (first ++ rest) _ said))
 
   outer_begun : (before symbols : List Symbol) (label : Option Span) (left right : List RawElem) → grammar.Label before label → grammar.Sides true symbols left right → AreSaid (before ++ symbols) → IsBegunAt tokens label (place_of (before ++ symbols))
-  outer_begun _ symbols _ left right grammar.Label.none is said = sides_begun true symbols left right is said
-  outer_begun _ symbols _ left right (grammar.Label.named a colon) is said = refl
+  outer_begun _ symbols _' left right given is said = grind (arith, sides_begun)
 
   -- the turns of a trace
   limit_well : (mark : Symbol) (limit : Option Span) → grammar.Limit mark limit → IsSaid mark.word mark.at → IsLimitOf tokens limit
-  limit_well _ _ (grammar.Limit.blank a) said = tt
-  limit_well _ _ (grammar.Limit.number a) said = said
+  limit_well _ _' given said = grind arith
 
   rules_well : (symbols : List Symbol) (rules : List RawRule) → grammar.Rules symbols rules → AreSaid symbols → AreRules rules
   rules_well _ _ grammar.Rules.none said = tt
@@ -234,8 +224,7 @@ module _ (tokens : List Token) where
       (atom_well first goal is (front first rest (next _ _ said)), goals_well rest goals further (back first rest (next _ _ said)))
 
   bag_elem_well : (symbols : List Symbol) (atoms : List RawAtom) → grammar.BagElem symbols atoms → AreSaid symbols → AreAtoms atoms
-  bag_elem_well _ _ (grammar.BagElem.unit open_ close) said = tt
-  bag_elem_well _ _ (grammar.BagElem.atom symbols a is) said = (atom_well symbols a is said, tt)
+  bag_elem_well _ _' given said = grind (arith, atom_well)
 
   bag_more_well : (symbols : List Symbol) (atoms : List RawAtom) → grammar.BagMore symbols atoms → AreSaid symbols → AreAtoms atoms
   bag_more_well _ _ grammar.BagMore.none said = tt
@@ -243,103 +232,43 @@ module _ (tokens : List Token) where
       both_all (IsAtomOf tokens) atoms others (bag_elem_well first atoms is (front first rest (next _ _ said))) (bag_more_well rest others further (back first rest (next _ _ said)))
 
   bag_well : (symbols : List Symbol) (atoms : List RawAtom) → grammar.Bag symbols atoms → AreSaid symbols → AreAtoms atoms
-  bag_well _ _ (grammar.Bag.empty close) said = tt
-  bag_well _ _ (grammar.Bag.some close first rest atoms others is further) said =
-      both_all (IsAtomOf tokens) atoms others (bag_elem_well first atoms is (front first _ said)) (bag_more_well rest others further (front rest _ (back first _ said)))
+  bag_well _ _' given said = grind (arith, both_all, bag_elem_well, front, bag_more_well, back)
 
   names_well : (spans : List Span) (rest : List Symbol) → AreSaid (names spans ++ rest) → AllByRecursion (IsNameAt tokens) spans × AreSaid rest
   names_well [] rest said = (tt, said)
   names_well (span ∷ spans) rest said = let more = names_well spans rest (next _ _ said) in ((said.all.0, more.0), more.1)
 
   label_well : (before rest : List Symbol) (label : Option Span) → grammar.Label before label → AreSaid (before ++ rest) → IsLabelOf tokens label × AreSaid rest
-  label_well _ rest _ grammar.Label.none said = (tt, said)
-  label_well _ rest _ (grammar.Label.named a colon) said = (said.all.0, (next _ _ (next _ _ said)))
+  label_well _ rest _' given said = grind (arith, next)
 
   item_well : (symbols : List Symbol) (item_ : RawItem) → grammar.Item symbols item_ → AreSaid symbols → IsItemOf tokens item_
   item_well _ _ (grammar.Item.sort a colon type_ dot) said = said.all.0
-  item_well _ _ (grammar.Item.pred a colon pred_ dot args) said = (said.all.0, (names_well args _ (next _ _ said)).0)
-  item_well _ _ (grammar.Item.back a colon bwd dot args) said = (said.all.0, (names_well args _ (next _ _ said)).0)
-  item_well _ _ (grammar.Item.fact a colon bwd dot args) said = (said.all.0, (names_well args _ (next _ _ said)).0)
   item_well _ _ (grammar.Item.colon a colon_ b dot args) said = let spans = names_well args _ (next _ _ said) in (said.all.0, spans.0, (next _ _ spans.1).all.0)
   item_well _ _ (grammar.Item.bare_clause dot symbols head is) said = (tt, (atom_well symbols head is (front symbols _ said), tt))
   item_well _ _ (grammar.Item.labelled a colon_ dot symbols head is some) said = (said.all.0, (atom_well symbols head is (front symbols _ (next _ _ (next _ _ said))), tt))
-  item_well _ _ (grammar.Item.clause arrow dot before symbols first rest label head goal goals labelled is is' further) said =
-      let behind = label_well before _ label labelled said in
-      let later = next _ _ (back symbols _ behind.1) in (
-        behind.0,
-        (
-          atom_well symbols head is (front symbols _ behind.1),
-          (
-            atom_well first goal is' (front first _ later),
-            goals_well rest goals further (front rest _ (back first _ later)),
-          ),
-        ),
-      )
-  item_well _ _ (grammar.Item.outer before symbols label left right labelled is) said =
-      let behind = label_well before symbols label labelled said in
-      let sides = sides_well true symbols left right is behind.1 in
-      record { begun = outer_begun before symbols label left right labelled is said; label = behind.0; left = sides.0; right = sides.1 }
+  item_well _ _ (grammar.Item.clause arrow dot before symbols first rest label head goal goals labelled is is' further) said = grind (arith, label_well, next, back, atom_well, front, goals_well)
+  item_well _ _ (grammar.Item.outer before symbols label left right labelled is) said = grind (arith, label_well before symbols label labelled said, sides_well, outer_begun before symbols label left right labelled is said)
   item_well _ _ (grammar.Item.unnamed blank colon_ symbols left right is) said =
       let sides = sides_well true symbols left right is (next _ _ (next _ _ said)) in
       record { begun = (token.Blank, begun_at token.Blank blank said.all.0); label = tt; left = sides.0; right = sides.1 }
-  item_well _ _ (grammar.Item.stage stage_ a equals open_ close symbols ending rules is dot_is) said =
-      ((next _ _ said).all.0, rules_well symbols rules is (front symbols _ (next _ _ (next _ _ (next _ _ (next _ _ said))))))
-  item_well _ _ (grammar.Item.context context_ a equals open_ symbols ending atoms is dot_is) said =
-      ((next _ _ said).all.0, bag_well symbols atoms is (front symbols _ (next _ _ (next _ _ (next _ _ (next _ _ said))))))
+  item_well _ _ (grammar.Item.stage stage_ a equals open_ close symbols ending rules is dot_is) said = grind (arith, next, rules_well, front)
+  item_well _ _ (grammar.Item.context context_ a equals open_ symbols ending atoms is dot_is) said = grind (arith, next, bag_well, front)
   item_well _ _ (grammar.Item.interactive directive a dot) said = (next _ _ said).all.0
-  item_well _ _ (grammar.Item.trace_named directive stage_ a dot mark limit is) said = (
-    begun_at token.Directive directive said.all.0,
-    limit_well mark limit is (next _ _ said).all.0,
-    (next _ _ (next _ _ said)).all.0,
-    (next _ _ (next _ _ (next _ _ said))).all.0,
-  )
-  item_well _ _ (grammar.Item.trace_listed directive stage_ open_ dot mark limit symbols atoms is bag) said = (
-    begun_at token.Directive directive said.all.0,
-    limit_well mark limit is (next _ _ said).all.0,
-    (next _ _ (next _ _ said)).all.0,
-    bag_well symbols atoms bag (front symbols _ (next _ _ (next _ _ (next _ _ (next _ _ said))))),
-  )
+  item_well _ _ (grammar.Item.trace_named directive stage_ a dot mark limit is) said = grind (arith, begun_at, limit_well, next, said.all.0)
+  item_well _ _ (grammar.Item.trace_listed directive stage_ open_ dot mark limit symbols atoms is bag) said = grind (arith, begun_at, limit_well, next, bag_well, front, said.all.0)
+  item_well _ _' given said = grind (arith, names_well, next)
 
   file_well : (symbols : List Symbol) (items : List RawItem) → grammar.File symbols items → AreSaid symbols → AreItems items
   file_well _ _ grammar.File.none said = tt
-  file_well _ _ (grammar.File.more first rest item_ items is further) said =
-      (item_well first item_ is (front first rest said), file_well rest items further (back first rest said))
+  file_well _ _ (grammar.File.more first rest item_ items is further) said = grind (arith, item_well, front, back, file_well rest items further (back first rest said))
 
   -- what a directive is
   directive_said : (bytes : List ℕ) (span : Span) → IsTokenAt tokens token.Directive span → IsSaid (directive_word bytes) span
-  directive_said bytes span is = first (bytes_eq bytes (codes "#interactive")) (bytes_eq bytes (codes "#trace"))
-    where
-      first : (one other : Bool) → IsSaid (if one then word.Interactive else (if other then word.Trace else word.Other)) span
-      first true other = is
-      first false true = is
-      first false false = tt
+  directive_said bytes span is = grind arith
 
   -- a token as a symbol
   token_said : (bytes : List ℕ) (kind : TokenKind) (span : Span) → IsTokenAt tokens kind span → IsSaid (word_of kind bytes) span
-  token_said bytes token.Directive span is = directive_said bytes span is
-  token_said bytes token.Name span is = is
-  token_said bytes token.Variable span is = is
-  token_said bytes token.Blank span is = is
-  token_said bytes token.Number span is = is
-  token_said bytes token.Colon span is = is
-  token_said bytes token.Dot span is = is
-  token_said bytes token.Comma span is = is
-  token_said bytes token.Star span is = is
-  token_said bytes token.Dollar span is = is
-  token_said bytes token.Equals span is = is
-  token_said bytes token.Open span is = is
-  token_said bytes token.Close span is = is
-  token_said bytes token.OpenBrace span is = is
-  token_said bytes token.CloseBrace span is = is
-  token_said bytes token.Lolli span is = is
-  token_said bytes token.Back span is = is
-  token_said bytes token.KwType span is = is
-  token_said bytes token.KwPred span is = is
-  token_said bytes token.KwBwd span is = is
-  token_said bytes token.KwFact span is = is
-  token_said bytes token.KwStage span is = is
-  token_said bytes token.KwContext span is = is
-  token_said bytes token.KwQui span is = is
+  token_said bytes kind span is = grind (arith, directive_said)
 
   -- tokens among these as symbols
   symbols_said : (text : List ℕ) (some : List Token) → ((one : Token) → Contains some one → Contains tokens one) → AllSaid (symbols_of text some)
@@ -355,35 +284,17 @@ well_written text tokens file is = file_well tokens (symbols_of text tokens) fil
 
 -- each item has a symbol
 item_some : (symbols : List Symbol) (item_ : RawItem) → grammar.Item symbols item_ → 1 ≤ length symbols
-item_some _ _ (grammar.Item.sort a colon type_ dot) = omega arith
-item_some _ _ (grammar.Item.pred a colon pred_ dot args) = omega arith
-item_some _ _ (grammar.Item.back a colon bwd dot args) = omega arith
-item_some _ _ (grammar.Item.fact a colon bwd dot args) = omega arith
-item_some _ _ (grammar.Item.colon a colon_ b dot args) = omega arith
 item_some _ _ (grammar.Item.bare_clause dot symbols head is) = let e = length-append symbols (at word.Dot dot ∷ []) in omega arith
-item_some _ _ (grammar.Item.labelled a colon_ dot symbols head is some) = omega arith
-item_some _ _ (grammar.Item.clause arrow dot before symbols first rest label head goal goals labelled is is' further) =
-    let e = length-append before (symbols ++ at word.Back arrow ∷ (first ++ (rest ++ at word.Dot dot ∷ []))) in
-    let f = length-append symbols (at word.Back arrow ∷ (first ++ (rest ++ at word.Dot dot ∷ []))) in
-    omega arith
+item_some _ _ (grammar.Item.clause arrow dot before symbols first rest label head goal goals labelled is is' further) = grind (arith, length-append)
 item_some _ _ (grammar.Item.outer before symbols label left right labelled is) = let e = length-append before symbols in let f = sides_some symbols left right is in omega arith
   where
     sides_some : (symbols : List Symbol) (left right : List RawElem) → grammar.Sides true symbols left right → 1 ≤ length symbols
     sides_some _ _ _ (grammar.Sides.sides outer arrow dot before after left right is is') = let e = length-append before (at word.Lolli arrow ∷ (after ++ at word.Dot dot ∷ [])) in omega arith
-item_some _ _ (grammar.Item.unnamed blank colon_ symbols left right is) = omega arith
-item_some _ _ (grammar.Item.stage stage_ a equals open_ close symbols ending rules is dot_is) = omega arith
-item_some _ _ (grammar.Item.context context_ a equals open_ symbols ending atoms is dot_is) = omega arith
-item_some _ _ (grammar.Item.interactive directive a dot) = omega arith
-item_some _ _ (grammar.Item.trace_named directive stage_ a dot mark limit is) = omega arith
-item_some _ _ (grammar.Item.trace_listed directive stage_ open_ dot mark limit symbols atoms is bag) = omega arith
+item_some _ _' given = omega arith
 
 items_few : (symbols : List Symbol) (items : List RawItem) → grammar.File symbols items → length items ≤ length symbols
 items_few _ _ grammar.File.none = omega arith
-items_few _ _ (grammar.File.more first rest item_ items is further) =
-    let e = item_some first item_ is in
-    let f = items_few rest items further in
-    let g = length-append first rest in
-    omega arith
+items_few _ _ (grammar.File.more first rest item_ items is further) = grind (arith, item_some, length-append, items_few rest items further)
 
 pub no_more_items : (text : List ℕ) (tokens : List Token) (file : List RawItem) → grammar.File (symbols_of text tokens) file → length file ≤ length tokens
 no_more_items text tokens file is = let e = items_few (symbols_of text tokens) file is in let f = length-map tokens (symbol_of text) in omega arith
