@@ -1,11 +1,11 @@
 -- What is wrong is found.
-use Rattle.std.proofs.Common.{◌≡◌, ◌≢◌, ℕ, ◌⊎◌, inl, inr, ⊎_elim, ◌==◌, Bool, true, false, ◌||◌, ◌&&◌, not, nat_lt, nat_le, if◌then◌else◌, List, [], ◌∷◌, ◌++◌, length, map, filter, Option, Some, None, is_some, refl, ap, sym, ◌∙◌, subst, count_by}
+use Rattle.std.proofs.Common.{◌≡◌, ◌≢◌, ℕ, ◌⊎◌, inl, inr, ⊎_elim, ◌==◌, Bool, true, false, ◌||◌, ◌&&◌, not, nat_lt, nat_le, if◌then◌else◌, List, [], ◌∷◌, ◌++◌, length, map, filter, Option, Some, None, is_some, refl, ap, sym, ◌∙◌, subst, arith}
 use Rattle.std.specs.Option.{option_map}
 use Rattle.std.specs.List.{flat_map, slice_get, sum_by}
-use Rattle.std.proofs.lemmas.Bool.{leb-true, eqb-true, lt-ltb}
+use Rattle.std.proofs.lemmas.Bool.{eqb-true, lt-ltb}
 use Rattle.cep_base.specs.Kinds.{is_backward}
 use Rattle.cep_base.specs.declared.kind.PredKind.{PredKind}
-use Rattle.cep_base.specs.declared.kind.PredKind.TheVariants.{Linear, Back, Fact}
+use Rattle.cep_base.specs.declared.kind.PredKind.TheVariants.{Back}
 use Rattle.cep_base.specs.declared.limits.TheConstants.{MOST_ARGUMENTS, MOST_BACKS, MOST_CLAUSES, MOST_CONS, MOST_COPIES, MOST_DEPTH, MOST_GOALS, MOST_NODES, MOST_PREDS, MOST_PREMISES, MOST_RIGHT, MOST_RULES, MOST_STATE_NODES, MOST_VARIABLES}
 use Rattle.cep_parse.specs.declared.raw.Span.{Span}
 use Rattle.cep_parse.specs.declared.raw.RawKind.{RawKind}
@@ -29,10 +29,10 @@ use Rattle.cep_source.specs.Uses.{uses_in, needed_atoms, made_atoms, clause_atom
 use Rattle.cep_source.specs.Variables.{Occurrence, variables_of}
 use Rattle.cep_source.specs.Starts.{IsFitWritten, nodes_written, depth_written, start_atoms, counting, turns_said}
 use Rattle.cep_faults.specs.Premises.{state_premises_of, backward_of}
-use Rattle.cep_faults.specs.Misnamed.{Misnamed, IsQuiRule, is_qui}
+use Rattle.cep_faults.specs.Misnamed.{Misnamed, IsQuiRule}
 use Rattle.cep_faults.specs.Misnamed.Misnamed.{twice, unknown, wrong_kind, wrong_arity, wrong_term_arity, variable_in_state, backward_in_state, linear_in_clause, bad_qui, no_trace, two_traces, over}
 use Rattle.cep_faults.specs.Limits.{IsOver, arguments_of}
-use Rattle.cep_faults.specs.Faults.{is_somewhere, lack_faults, use_faults, arity_faults, pred_arity, pred_faults, con_arity, kind_faults, node_faults, names_faults, back_by, back_faults, linear_by, linear_faults, clause_atom_faults, side_atom_faults, elem_faults, is_fit, state_faults, listed_faults, past, past_most, argument_faults, predicate_faults, con_faults, premise_faults, right_faults, is_stage, is_qui_rule, home_faults, variable_faults, rule_faults, clause_faults, context_faults, begin_faults, turns_faults, trace_faults}
+use Rattle.cep_faults.specs.Faults.{is_somewhere, lack_faults, use_faults, arity_faults, pred_arity, pred_faults, con_arity, kind_faults, node_faults, names_faults, back_by, back_faults, linear_by, clause_atom_faults, side_atom_faults, elem_faults, is_fit, state_faults, listed_faults, past_most, argument_faults, predicate_faults, con_faults, premise_faults, right_faults, is_qui_rule, home_faults, variable_faults, rule_faults, clause_faults, context_faults, begin_faults, turns_faults, trace_faults}
 use Rattle.cep_faults.specs.Totals.{count_faults, start_faults, two_faults, traces_faults, all_faults}
 use Rattle.cep_base.proofs.Members.{In, here, in_nil, in_one, in_same, in_left, in_right, in_parts, through, via, image, mapped, from_contains}
 use Rattle.cep_faults.proofs.Spread.{kept_from, somewhere_of, nowhere_of, stage_count}
@@ -41,46 +41,31 @@ is_one : (w fault : Fault) → fault ≡ w → In (w ∷ []) fault
 is_one w fault e = subst (In (w ∷ [])) (sym e) (here w [])
 
 unless : (b : Bool) (w fault : Fault) → b ≡ false → fault ≡ w → In (let found : List Fault = if b then [] else w ∷ [] in found) fault
-unless true w fault e is = absurd cc
-unless false w fault e is = is_one w fault is
+unless b w fault e is = grind (arith, is_one)
 
 when : (b : Bool) (w fault : Fault) → b ≡ true → fault ≡ w → In (let found : List Fault = if b then w ∷ [] else [] in found) fault
-when true w fault e is = is_one w fault is
-when false w fault e is = absurd cc
+when b w fault e is = grind (arith, is_one)
 
 refuted : {P : Type 0} (b v : Bool) → (b ≡ true → P) → ¬ P → b ≡ v → b ≡ false
-refuted b true h n e = absurd (n (h e))
-refuted b false h n e = e
+refuted b v h n e = grind (arith, h, e)
 
 both_parts : (a b : Bool) → (a && b) ≡ true → (a ≡ true) × (b ≡ true)
-both_parts true b e = (refl, e)
-both_parts false b e = absurd cc
+both_parts a b e = grind (arith, e)
 
 or_left : (a b : Bool) → a ≡ true → (a || b) ≡ true
-or_left true b e = refl
-or_left false b e = absurd cc
+or_left a b e = grind arith
 
 or_right : (a b : Bool) → b ≡ true → (a || b) ≡ true
-or_right true b e = refl
-or_right false b e = e
+or_right a b e = grind (arith, e)
 
 unequal : (a b : ℕ) → a ≢ b → (a == b) ≡ false
 unequal a b ne = refuted (a == b) (a == b) (eqb-true a b) ne refl
 
 is_qui_by : (rule : RawRule) → is_qui_rule rule ≡ true → IsQuiRule rule
-is_qui_by rule e =
-    let one = both_parts (count_by is_qui rule.left == 1) ((count_by is_stage rule.left == 1) && (count_by is_stage rule.right == 1)) e in
-    let two = both_parts (count_by is_stage rule.left == 1) (count_by is_stage rule.right == 1) one.1 in
-    record {
-      qui = eqb-true (count_by is_qui rule.left) 1 one.0;
-      from = sym (stage_count rule.left) ∙ eqb-true (count_by is_stage rule.left) 1 two.0;
-      to = sym (stage_count rule.right) ∙ eqb-true (count_by is_stage rule.right) 1 two.1;
-    }
+is_qui_by rule e = grind (arith, both_parts, e, eqb-true, stage_count, rule.left, rule.right)
 
 is_fit_by : (atom : RawAtom) → is_fit atom ≡ true → IsFitWritten atom
-is_fit_by atom e =
-    let both = both_parts (nat_le (nodes_written atom) MOST_NODES) (nat_le (depth_written atom) MOST_DEPTH) e in
-    record { nodes = leb-true (nodes_written atom) MOST_NODES both.0; depth = leb-true (depth_written atom) MOST_DEPTH both.1 }
+is_fit_by atom e = grind (arith, both_parts (nat_le (nodes_written atom) MOST_NODES) (nat_le (depth_written atom) MOST_DEPTH) e)
 
 module _ (source : Source) (fault : Fault) where
   abbrev Found : Type 0
@@ -191,20 +176,13 @@ module _ (source : Source) (fault : Fault) where
   -- an atom of a side
   side_atom_in : (made : Bool) (elem_ : RawElem) (atom : RawAtom) → In (atoms_in elem_) atom → In (side_atom_faults source made atom) fault → In (elem_faults source made elem_) fault
   side_atom_in made (elem.Atom kept other) atom at k = in_same (side_atom_faults source made other) (side_atom_faults source made atom) fault (ap (side_atom_faults source made) (sym (in_one other atom at))) k
-  side_atom_in made (elem.Stage name) atom at k = absurd (in_nil atom at)
-  side_atom_in made (elem.Qui span) atom at k = absurd (in_nil atom at)
+  side_atom_in made elem_ atom at k = grind (arith, in_nil)
 
   of_needed : (atom : RawAtom) → In (needed_atoms source) atom → In (names_faults source false atom) fault → Found
-  of_needed atom at k =
-      let rule = through (λ (rule : RuleItem). atoms_of rule.raw.left) (rules_of source) atom at in
-      let elem_ = through atoms_in rule.from.raw.left atom rule.given in
-      from_left rule.from rule.member elem_.from elem_.member (side_atom_in false elem_.from atom elem_.given (in_left (names_faults source false atom) _ fault k))
+  of_needed atom at k = grind (arith, through, from_left, side_atom_in, in_left)
 
   of_made : (atom : RawAtom) → In (made_atoms source) atom → In (side_atom_faults source true atom) fault → Found
-  of_made atom at k =
-      let rule = through (λ (rule : RuleItem). atoms_of rule.raw.right) (rules_of source) atom at in
-      let elem_ = through atoms_in rule.from.raw.right atom rule.given in
-      from_right rule.from rule.member elem_.from elem_.member (side_atom_in true elem_.from atom elem_.given k)
+  of_made atom at k = grind (arith, through, from_right, side_atom_in)
 
   -- an atom of a clause
   abbrev atoms_part : ClauseItem → List Fault
@@ -221,12 +199,10 @@ module _ (source : Source) (fault : Fault) where
 
   -- an atom of a state
   listed_by : (stands : Bool) (atom : RawAtom) → not stands ≡ true → In (state_faults source atom) fault → In (let found : List Fault = if stands then [] else state_faults source atom in found) fault
-  listed_by true atom e k = absurd cc
-  listed_by false atom e k = k
+  listed_by stands atom e k = grind arith
 
   begun_in : (start : RawStart) (atom : RawAtom) → In (start_listed start) atom → not (stands_for_context source atom) ≡ true → In (state_faults source atom) fault → In (begin_faults source start) fault
-  begun_in (state.Named name) atom at itself k = absurd (in_nil atom at)
-  begun_in (state.Listed atoms) atom at itself k = via (listed_faults source true) atoms atom fault at (listed_by (stands_for_context source atom) atom itself k)
+  begun_in start atom at itself k = grind (arith, in_nil, via, listed_by)
 
   from_begin : (trace : TraceItem) → In (traces_of source) trace → In (begin_faults source trace.start) fault → Found
   from_begin trace m k = of_trace trace m (in_left (use_faults source space.Stages trace.stage ++ begin_faults source trace.start) _ fault (in_right (use_faults source space.Stages trace.stage) _ fault k))
@@ -249,14 +225,7 @@ module _ (source : Source) (fault : Fault) where
 
   -- any atom, by the names that it uses
   of_atom : (atom : RawAtom) → In (atoms_written source) atom → ((in_state : Bool) → In (names_faults source in_state atom) fault) → Found
-  of_atom atom at k =
-      ⊎_elim (λ n. of_needed atom n (k false))
-      (λ r. ⊎_elim (λ m. of_made atom m (in_left (names_faults source false atom) _ fault (k false)))
-      (λ s. ⊎_elim (λ c. of_clause_atom atom c (in_left (names_faults source false atom) _ fault (k false)))
-      (λ t. of_state atom t (names_state atom (k true)))
-      (in_parts (clause_atoms source) _ atom s))
-      (in_parts (made_atoms source) _ atom r))
-      (in_parts (needed_atoms source) _ atom at)
+  of_atom atom at k = grind (arith, of_needed, of_made, in_left, of_clause_atom, of_state, names_state, in_parts)
 
   of_node : (node : RawNode) → In (raw_nodes (atoms_written source)) node → node.kind ≡ kind.App → ((in_state : Bool) → In (kind_faults source in_state kind.App node) fault) → Found
   of_node node at app k =
@@ -266,21 +235,16 @@ module _ (source : Source) (fault : Fault) where
 
   -- uses of names
   applied_is : (its : RawKind) (span name : Span) → In (applied_at its span) name → (its ≡ kind.App) × (name ≡ span)
-  applied_is kind.App span name at = (refl, in_one span name at)
-  applied_is kind.Blank span name at = absurd (in_nil name at)
-  applied_is kind.Var span name at = absurd (in_nil name at)
+  applied_is its span name at = grind (arith, in_one, in_nil)
 
   use_at : (in_space : Space) (other name : Span) → name ≡ other → In (use_faults source in_space name) fault → In (use_faults source in_space other) fault
   use_at in_space other name is k = in_same (use_faults source in_space other) (use_faults source in_space name) fault (ap (use_faults source in_space) (sym is)) k
 
   staged_in : (made : Bool) (elem_ : RawElem) (name : Span) → In (stages_at elem_) name → In (use_faults source space.Stages name) fault → In (elem_faults source made elem_) fault
-  staged_in made (elem.Atom kept atom) name at k = absurd (in_nil name at)
-  staged_in made (elem.Stage other) name at k = use_at space.Stages other name (in_one other name at) k
-  staged_in made (elem.Qui span) name at k = absurd (in_nil name at)
+  staged_in made elem_ name at k = grind (arith, in_nil, use_at, in_one)
 
   named_in : (start : RawStart) (name : Span) → In (contexts_at start) name → In (use_faults source space.Contexts name) fault → In (begin_faults source start) fault
-  named_in (state.Named other) name at k = use_at space.Contexts other name (in_one other name at) k
-  named_in (state.Listed atoms) name at k = absurd (in_nil name at)
+  named_in start name at k = grind (arith, use_at, in_one, in_nil)
 
   of_argument : (args : List Span) (name : Span) → In args name → In (use_faults source space.Sorts name) fault → In (argument_faults source args) fault
   of_argument args name at k = in_left (flat_map (use_faults source space.Sorts) args) _ fault (via (use_faults source space.Sorts) args name fault at k)
@@ -321,8 +285,7 @@ module _ (source : Source) (fault : Fault) where
 
   lack_in : (in_space : Space) (name : Span) (has anywhere : Bool) → is_in source in_space (said source name) ≡ has → is_somewhere source (said source name) ≡ anywhere
       → In (lack_faults has anywhere name.from) fault → In (use_faults source in_space name) fault
-  lack_in in_space name has anywhere is there m =
-      in_same _ (lack_faults has anywhere name.from) fault (ap (λ (v : Bool). lack_faults v (is_somewhere source (said source name)) name.from) is ∙ ap (λ (v : Bool). lack_faults has v name.from) there) m
+  lack_in in_space name has anywhere is there m = grind (arith, in_same, name.from)
 
   -- numbers of arguments
   arity_in : (known : Option ℕ) (n args at : ℕ) → known ≡ Some n → args ≢ n → fault ≡ wrong WrongArity at → In (arity_faults known args at) fault
@@ -330,22 +293,17 @@ module _ (source : Source) (fault : Fault) where
 
   -- variables and kinds
   open_in : (node : RawNode) (its : RawKind) → its ≢ kind.App → fault ≡ wrong VarInContext node.at.from → In (kind_faults source true its node) fault
-  open_in node kind.App apart is = absurd (apart refl)
-  open_in node kind.Blank apart is = is_one _ fault is
-  open_in node kind.Var apart is = is_one _ fault is
+  open_in node its apart is = grind (arith, is_one)
 
   back_in : (atom : RawAtom) → kind_of source atom ≡ Some Back → fault ≡ wrong BwdInState atom.name.from → In (back_faults source atom) fault
   back_in atom is e_ = in_same (back_faults source atom) (back_by (Some Back) atom.name.from) fault (ap (λ (o : Option PredKind). back_by o atom.name.from) is) (is_one _ fault e_)
 
   linear_one : (its : PredKind) (at : ℕ) → is_backward its ≡ false → fault ≡ wrong LinearInClause at → In (linear_by (Some its) at) fault
-  linear_one Linear at n is = is_one _ fault is
-  linear_one Fact at n is = is_one _ fault is
-  linear_one Back at n is = absurd cc
+  linear_one its at n is = grind (arith, is_one)
 
   -- limits
   past_in : {X : Type 0} (place : X → ℕ) (xs : List X) (most : ℕ) (x : X) (at : ℕ) → slice_get xs most ≡ Some x → at ≡ place x → fault ≡ wrong OverLimit at → In (past_most place xs most) fault
-  past_in place xs most x at got is e_ =
-      in_same (past_most place xs most) (wrong OverLimit (place x) ∷ []) fault (ap (λ o. past (option_map place o)) got) (is_one _ fault (e_ ∙ ap (wrong OverLimit) is))
+  past_in place xs most x at got is e_ = grind (arith, in_same, is_one)
 
   many_arguments : (args : List Span) (name : Span) (at : ℕ) → slice_get args MOST_ARGUMENTS ≡ Some name → at ≡ name.from → fault ≡ wrong OverLimit at → In (argument_faults source args) fault
   many_arguments args name at got is e_ = in_right (flat_map (use_faults source space.Sorts) args) _ fault (past_in (λ (arg : Span). arg.from) args MOST_ARGUMENTS name at got is e_)
@@ -410,16 +368,12 @@ module _ (source : Source) (fault : Fault) where
       (unless (is_some (turns_said source.text number)) (wrong OverLimit number.from) fault (ap is_some n) (e_ ∙ ap (wrong OverLimit) is))))
 
   home_in : (rule : RuleItem) → rule.home ≡ None → ¬ IsQuiRule rule.raw → fault ≡ wrong BadQui rule.raw.at → In (home_faults rule) fault
-  home_in rule home n is =
-      unless (is_some rule.home || is_qui_rule rule.raw) (wrong BadQui rule.raw.at) fault
-      (ap (λ (o : Option Span). is_some o || is_qui_rule rule.raw) home ∙ refuted (is_qui_rule rule.raw) (is_qui_rule rule.raw) (is_qui_by rule.raw) n refl) is
+  home_in rule home n is = grind (arith, unless, refuted, is_qui_by, rule.home, rule.raw, rule.raw.at)
 
   pub complete : Misnamed source fault → IsTwice source fault ⊎ Found
   complete (twice k) = inl k
-  complete (unknown in_space name c no_ is) =
-      inr (of_use in_space name (from_contains (uses_in source in_space) name c) (lack_in in_space name false false (no_ in_space) (nowhere_of source (said source name) no_) (is_one _ fault is)))
-  complete (wrong_kind in_space other name c no_ yes_ is) =
-      inr (of_use in_space name (from_contains (uses_in source in_space) name c) (lack_in in_space name false true no_ (somewhere_of source (said source name) other yes_) (is_one _ fault is)))
+  complete (unknown in_space name c no_ is) = grind (arith, of_use, from_contains (uses_in source in_space) name c, lack_in, nowhere_of source (said source name) no_, is_one)
+  complete (wrong_kind in_space other name c no_ yes_ is) = grind (arith, of_use, from_contains (uses_in source in_space) name c, lack_in, somewhere_of source (said source name) other yes_, is_one)
   complete (wrong_arity atom pred c named ne is) =
       inr (of_atom atom (from_contains (atoms_written source) atom c) (λ in_state. in_left (pred_faults source atom) _ fault (in_right (use_faults source space.Predicates atom.name) _ fault
       (arity_in (pred_arity source atom) (length pred.args) atom.args atom.name.from (ap (option_map (λ (its : PredItem). length its.args)) named) ne is))))
@@ -429,12 +383,8 @@ module _ (source : Source) (fault : Fault) where
   complete (variable_in_state node c apart is) =
       let atom = through (λ (atom : RawAtom). atom.nodes) (state_atoms source) node (from_contains (raw_nodes (state_atoms source)) node c) in
       inr (of_state atom.from atom.member (names_state atom.from (in_right (pred_faults source atom.from) _ fault (via (node_faults source true) atom.from.nodes node fault atom.given (open_in node node.kind apart is)))))
-  complete (backward_in_state atom c back is) =
-      inr (⊎_elim (λ m. of_made atom m (in_right (names_faults source false atom) _ fault (back_in atom back is))) (λ s. of_state atom s (back_state atom (back_in atom back is)))
-      (in_parts (made_atoms source) _ atom (from_contains (made_atoms source ++ state_atoms source) atom c)))
-  complete (linear_in_clause atom its c named n is) =
-      inr (of_clause_atom atom (from_contains (clause_atoms source) atom c) (in_right (names_faults source false atom) _ fault
-      (in_same (linear_faults source atom) (linear_by (Some its) atom.name.from) fault (ap (λ (o : Option PredKind). linear_by o atom.name.from) named) (linear_one its atom.name.from n is))))
+  complete (backward_in_state atom c back is) = grind (arith, of_made, in_right, back_in atom back is, of_state, back_state atom (back_in atom back is), in_parts, from_contains (made_atoms source ++ state_atoms source) atom c)
+  complete (linear_in_clause atom its c named n is) = grind (arith, of_clause_atom, from_contains (clause_atoms source) atom c, in_right, in_same, linear_one its atom.name.from n is, atom.name.from)
   complete (bad_qui rule c home n is) = inr (from_home rule (from_contains (rules_of source) rule c) (home_in rule home n is))
   complete (no_trace traces is) = inr (of_traces [] traces (is_one _ fault is))
   complete (two_traces first trace rest traces c is) =

@@ -1,7 +1,7 @@
 -- What counts of atoms, one atom and one context after another.
-use Rattle.std.proofs.Common.{◌≡◌, ℕ, ◌==◌, ◌⊎◌, ⊎_elim, inl, inr, ◌+◌, ◌<◌, min, Bool, true, false, ◌&&◌, ◌||◌, not, if◌then◌else◌, List, [], ◌∷◌, ◌++◌, length, take, get_or, map, Option, Some, None, refl, sym, ap, subst, ◌∙◌, append_assoc, append-nil, length-append, arith, Contains}
+use Rattle.std.proofs.Common.{◌≡◌, ℕ, ◌==◌, ◌⊎◌, ⊎_elim, inl, inr, ◌+◌, ◌<◌, min, Bool, true, false, ◌&&◌, ◌||◌, not, if◌then◌else◌, List, [], ◌∷◌, ◌++◌, length, take, get_or, map, Some, refl, sym, ap, subst, ◌∙◌, append_assoc, append-nil, length-append, arith, Contains}
 use Rattle.std.specs.Str.{bytes_eq}
-use Rattle.std.specs.List.{list_any, sum_by, flat_map}
+use Rattle.std.specs.List.{list_any, flat_map}
 use Rattle.std.proofs.lemmas.Bool.{eq-eqb}
 use Rattle.std.proofs.lemmas.List.{map-append, take_more}
 use Rattle.std.proofs.lemmas.Grind.{flat_map-append}
@@ -14,30 +14,24 @@ use Rattle.cep_base.proofs.Elements.{contains_none, contains_cases, contains_fir
 use Rattle.cep_source.specs.Items.{Source, said}
 use Rattle.cep_base.specs.FirstNames.{has_name, under_name, added}
 use Rattle.cep_source.specs.Uses.{stands_for_context}
-use Rattle.cep_source.specs.Starts.{listed_in, nodes_written, is_of_fact, are_nodes_alike, is_written_alike, counting_behind, counting}
+use Rattle.cep_source.specs.Starts.{listed_in, is_of_fact, are_nodes_alike, is_written_alike, counting_behind, counting}
 use Rattle.cep_faults.specs.declared.traces.Counted.{Counted}
 use Rattle.cep_faults.specs.declared.traces.Size.{Size}
 use Rattle.cep_faults.specs.FactKeys.{atom_key}
-use Rattle.cep_faults.specs.Counted.{cut, total_size, written_size, most_counted, others, facts_counting, nothing_counted, IsPassed, IsCountOf}
+use Rattle.cep_faults.specs.Counted.{cut, total_size, written_size, others, facts_counting, nothing_counted, IsPassed, IsCountOf}
 use Rattle.cep_faults.proofs.FactKeys.{keys_tell, is_new, one_counts, one_fact, among_facts}
 
 or_true : (b : Bool) → (b || true) ≡ true
-or_true true = refl
-or_true false = refl
+or_true b = grind arith
 
 or_move : (p q r : Bool) → (p || (q || r)) ≡ ((q || p) || r)
-or_move true true r = refl
-or_move true false r = refl
-or_move false true r = refl
-or_move false false r = refl
+or_move p q r = grind arith
 
 or_none : (b : Bool) → (b || false) ≡ b
-or_none true = refl
-or_none false = refl
+or_none b = grind arith
 
 both_parts : (a b : Bool) → (a && b) ≡ true → (a ≡ true) × (b ≡ true)
-both_parts true b e = (refl, e)
-both_parts false b e = absurd cc
+both_parts a b e = grind arith
 
 same_bytes : (name : List ℕ) → bytes_eq name name ≡ true
 same_bytes name = (bytes_eq-Decides name name).1 refl
@@ -46,40 +40,25 @@ same_number : (n : ℕ) → (n == n) ≡ true
 same_number n = eq-eqb n n refl
 
 pub not_true : (a b : Bool) → a ≡ not b → a ≡ false → b ≡ true
-not_true a true is was = refl
-not_true a false is was = absurd cc
+not_true a b is was = grind arith
 
 pub not_false : (a b : Bool) → a ≡ not b → a ≡ true → b ≡ false
-not_false a true is was = absurd cc
-not_false a false is was = refl
+not_false a b is was = grind arith
 
 cut_both : (a b c m : ℕ) → c ≡ a + b → min (min a m + min b m) m ≡ min c m
 cut_both a b c m is = omega (arith, is)
 
 -- the size of two parts
 pub joined_size : (xs ys : List RawAtom) → cut (total_size (cut (written_size xs)) (cut (written_size ys))) ≡ cut (written_size (xs ++ ys))
-joined_size xs ys = λ i. record {
-  copies = cut_both (length xs) (length ys) (length (xs ++ ys)) most_counted (length-append xs ys) i;
-  nodes = cut_both (sum_by nodes_written xs) (sum_by nodes_written ys) (sum_by nodes_written (xs ++ ys)) most_counted (sum_by-append nodes_written xs ys) i;
-}
+joined_size xs ys = grind (arith, cut_both, length-append, sum_by-append)
 
 -- a name that is there now was there before, or is the one that came
 under_last : {A : Type 0} (table : List (List ℕ × A)) (name : List ℕ) (value : A) (other : List ℕ) (given : A) → under_name (table ++ (name, value) ∷ []) other ≡ Some given → (under_name table other ≡ Some given) ⊎ ((bytes_eq other name ≡ true) × (given ≡ value))
-under_last [] name value other given is = by (bytes_eq other name) refl is where
-  by : (b : Bool) → bytes_eq other name ≡ b → ◌≡◌ {A = Option _} (if b then Some value else None) (Some given) → (None ≡ Some given) ⊎ ((bytes_eq other name ≡ true) × (given ≡ value))
-  by true e got = inr (e, let same : value ≡ given = cc in sym same)
-  by false e got = absurd cc
-under_last (entry ∷ table) name value other given is = by (bytes_eq other entry.0) is (under_last table name value other given) where
-  by : (b : Bool) → (if b then Some entry.1 else under_name (table ++ (name, value) ∷ []) other) ≡ Some given → (under_name (table ++ (name, value) ∷ []) other ≡ Some given → (under_name table other ≡ Some given) ⊎ ((bytes_eq other name ≡ true) × (given ≡ value)))
-      → ((if b then Some entry.1 else under_name table other) ≡ Some given) ⊎ ((bytes_eq other name ≡ true) × (given ≡ value))
-  by true got rest = inl got
-  by false got rest = rest got
+under_last [] name value other given is = grind arith
+under_last (entry ∷ table) name value other given is = grind (arith, entry.0, under_last table name value other given, entry.1)
 
 under_added : {A : Type 0} (table : List (List ℕ × A)) (name : List ℕ) (value : A) (other : List ℕ) (given : A) → under_name (added table (name, value)) other ≡ Some given → (under_name table other ≡ Some given) ⊎ ((bytes_eq other name ≡ true) × (given ≡ value))
-under_added table name value other given is = by (has_name table name) is where
-  by : (b : Bool) → under_name (if b then table else table ++ (name, value) ∷ []) other ≡ Some given → (under_name table other ≡ Some given) ⊎ ((bytes_eq other name ≡ true) × (given ≡ value))
-  by true got = inl got
-  by false got = under_last table name value other given got
+under_added table name value other given is = grind (arith, under_last)
 
 -- a name that is there is not added
 pub added_again : {A : Type 0} (table : List (List ℕ × A)) (name : List ℕ) (value : A) → has_name table name ≡ true → added table (name, value) ≡ table
@@ -91,14 +70,10 @@ module _ (source : Source) where
 
   nodes_alike : (nodes : List RawNode) → are_nodes_alike source nodes nodes ≡ true
   nodes_alike [] = refl
-  nodes_alike (node ∷ nodes) =
-      ap (λ b. (b && (node.args == node.args)) && are_nodes_alike source nodes nodes) (same_bytes (said source node.at))
-      ∙ ap (λ b. b && are_nodes_alike source nodes nodes) (same_number node.args) ∙ nodes_alike nodes
+  nodes_alike (node ∷ nodes) = grind (arith, same_bytes, same_number, node.args, node.at, nodes_alike nodes)
 
   itself : (atom : RawAtom) → alike atom atom ≡ true
-  itself atom =
-      ap (λ b. b && (atom.args == atom.args) && are_nodes_alike source atom.nodes atom.nodes) (same_bytes (said source atom.name))
-      ∙ ap (λ b. b && are_nodes_alike source atom.nodes atom.nodes) (same_number atom.args) ∙ nodes_alike atom.nodes
+  itself atom = grind (arith, same_bytes, same_number, nodes_alike, atom.args, atom.nodes, atom.name)
 
   -- an atom that was listed is written like one that counts
   abbrev is_seen : List RawAtom → List RawAtom → RawAtom → Bool
@@ -106,16 +81,11 @@ module _ (source : Source) where
 
   seen_first : (b : Bool) (before atoms : List RawAtom) (y x : RawAtom) → (is_of_fact source y && list_any (alike y) before) ≡ b → y ≡ x
       → (list_any (alike x) (if b then counting_behind source before atoms else y ∷ counting_behind source (y ∷ before) atoms) || list_any (alike x) before) ≡ true
-  seen_first true before atoms y x is same =
-      ap (λ t. list_any (alike x) (counting_behind source before atoms) || t) (subst (λ z. list_any (alike z) before ≡ true) same (both_parts (is_of_fact source y) (list_any (alike y) before) is).1)
-      ∙ or_true (list_any (alike x) (counting_behind source before atoms))
-  seen_first false before atoms y x is same =
-      ap (λ t. (t || list_any (alike x) (counting_behind source (y ∷ before) atoms)) || list_any (alike x) before) (subst (λ z. alike x z ≡ true) (sym same) (itself x))
+  seen_first b before atoms y x is same = grind (arith, alike, both_parts, or_true, itself)
 
   seen_later : (b : Bool) (before atoms : List RawAtom) (y x : RawAtom) → is_seen before atoms x ≡ true → is_seen (y ∷ before) atoms x ≡ true
       → (list_any (alike x) (if b then counting_behind source before atoms else y ∷ counting_behind source (y ∷ before) atoms) || list_any (alike x) before) ≡ true
-  seen_later true before atoms y x here there = here
-  seen_later false before atoms y x here there = sym (or_move (list_any (alike x) (counting_behind source (y ∷ before) atoms)) (alike x y) (list_any (alike x) before)) ∙ there
+  seen_later b before atoms y x here there = grind (arith, or_move, alike)
 
   seen_alike : (before atoms : List RawAtom) (x : RawAtom) → Contains atoms x → is_seen before atoms x ≡ true
   seen_alike before [] x there = absurd (contains_none x there)
@@ -196,11 +166,7 @@ module _ (source : Source) where
       larger is = size_is ∙ (λ i. cut (total_size (so_far.size i) (one_is i))) ∙ joined_size (counting source atoms) (a ∷ []) ∙ ap (λ xs. cut (written_size xs)) (sym is)
 
       pub no_fact : is_of_fact source a ≡ false → new.facts ≡ old.facts → IsCountOf source (atoms ++ a ∷ []) new
-      no_fact is facts = record {
-        size = larger (counts atoms a (ap (λ (b : Bool). b && list_any (alike a) (counting source atoms)) is));
-        facts = ap (map (λ entry. entry.0)) facts ∙ so_far.facts ∙ ap (map (atom_key source)) (sym (same_facts atoms a (ap (λ (b : Bool). b && not (list_any (alike a) (facts_counting source atoms))) is)));
-        contexts = still;
-      }
+      no_fact is facts = grind (arith, larger, counts, alike, same_facts, still, so_far.facts)
 
       pub new_fact : (key : List ℕ) (with_size : Size) → is_of_fact source a ≡ true → key ≡ atom_key source a → has_name old.facts key ≡ false → new.facts ≡ added old.facts (key, with_size) → IsCountOf source (atoms ++ a ∷ []) new
       new_fact key with_size fact key_is has facts = record {
@@ -218,14 +184,7 @@ module _ (source : Source) where
           more_facts = one_fact source atoms a ∙ ap (λ (b : Bool). facts_counting source atoms ++ (if b then a ∷ [] else [])) (ap (λ (b : Bool). b && not (list_any (alike a) (facts_counting source atoms))) fact ∙ ap not unseen)
 
     pub old_fact : (key : List ℕ) → is_of_fact source a ≡ true → key ≡ atom_key source a → has_name old.facts key ≡ true → new.size ≡ old.size → new.facts ≡ old.facts → IsCountOf source (atoms ++ a ∷ []) new
-    old_fact key fact key_is has size_is facts = record {
-      size = size_is ∙ so_far.size ∙ ap (λ xs. cut (written_size xs)) (sym (counts_not atoms a (ap (λ (b : Bool). b && list_any (alike a) (counting source atoms)) fact ∙ among_facts source a (counting source atoms) fact ∙ seen)));
-      facts = ap (map (λ entry. entry.0)) facts ∙ so_far.facts ∙ ap (map (atom_key source)) (sym (same_facts atoms a (ap (λ (b : Bool). b && not (list_any (alike a) (facts_counting source atoms))) fact ∙ ap not seen)));
-      contexts = still;
-    }
-      where
-        seen : list_any (alike a) (facts_counting source atoms) ≡ true
-        seen = sym (told atoms a old so_far) ∙ ap (has_name old.facts) (sym key_is) ∙ has
+    old_fact key fact key_is has size_is facts = grind (arith, counts_not, alike a, among_facts source a (counting source atoms) fact, same_facts, still, told atoms a old so_far)
 
   -- a context more, which was listed before
   pub context_again : (before : List RawAtom) (old new : Counted) (name : List ℕ) (size_ : Size) → IsCountOf source before old → under_name old.contexts name ≡ Some size_ → new.size ≡ cut (total_size old.size size_) → new.facts ≡ old.facts → new.contexts ≡ old.contexts
@@ -262,15 +221,13 @@ module _ (source : Source) where
   -- two parts, one after the other
   pub both_counted : (xs ys zs : List RawAtom) (start old new : Counted) → zs ≡ xs ++ ys → ((before : List RawAtom) → IsCountOf source before start → IsCountOf source (before ++ xs) old)
       → ((before : List RawAtom) → IsCountOf source before old → IsCountOf source (before ++ ys) new) → (before : List RawAtom) → IsCountOf source before start → IsCountOf source (before ++ zs) new
-  both_counted xs ys zs start old new are one other before so_far =
-      subst (λ them. IsCountOf source them new) (append_assoc before xs ys ∙ ap (λ them. before ++ them) (sym are)) (other (before ++ xs) (one before so_far))
+  both_counted xs ys zs start old new are one other before so_far = grind (arith, append_assoc)
 
 pub first_more : (atoms : List RawAtom) (i : ℕ) (atom : RawAtom) → i < length atoms → atom ≡ get_or atoms i atom → take (i + 1) atoms ≡ take i atoms ++ atom ∷ []
 first_more atoms i atom within at = take_more atoms i atom within ∙ ap (λ y. take i atoms ++ y ∷ []) (sym at)
 
 pub listed_more : (g : RawAtom → List RawAtom) (atoms : List RawAtom) (i : ℕ) (atom : RawAtom) → i < length atoms → atom ≡ get_or atoms i atom → flat_map g (take (i + 1) atoms) ≡ flat_map g (take i atoms) ++ g atom
-listed_more g atoms i atom within at =
-    ap (flat_map g) (first_more atoms i atom within at) ∙ flat_map-append g (take i atoms) (atom ∷ []) ∙ ap (λ ys. flat_map g (take i atoms) ++ ys) (append-nil (g atom))
+listed_more g atoms i atom within at = rw (first_more atoms i atom within at, flat_map-append g (take i atoms) (atom ∷ []), append-nil (g atom))
 
 -- what an atom in braces lists
 abbrev pub listed_by : Source → RawAtom → List RawAtom

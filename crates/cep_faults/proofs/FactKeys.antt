@@ -1,24 +1,20 @@
 -- The facts that count, one atom after another, and the keys by which they are told apart.
-use Rattle.std.proofs.Common.{◌≡◌, ℕ, zero, suc, ◌==◌, Bool, true, false, ◌&&◌, ◌||◌, not, if◌then◌else◌, List, [], ◌∷◌, ◌++◌, filter, unwrap_or, refl, sym, ap, ◌∙◌, append_assoc, arith}
+use Rattle.std.proofs.Common.{◌≡◌, ℕ, zero, suc, ◌==◌, Bool, true, false, ◌&&◌, ◌||◌, not, if◌then◌else◌, List, [], ◌∷◌, ◌++◌, filter, refl, sym, ap, ◌∙◌, append_assoc, arith}
 use Rattle.std.specs.Str.{bytes_eq}
 use Rattle.std.specs.List.{flat_map, list_any}
 use Rattle.std.specs.Cmp.{both_ways}
-use Rattle.std.specs.Option.{option_map}
 use Rattle.std.proofs.lemmas.Bool.{eqb-true, eq-eqb}
 use Rattle.std.proofs.lemmas.List.Elements.{filter-append}
 use Rattle.std.proofs.lemmas.Slice.Eq.{bytes_eq-Decides}
 use Rattle.cep_parse.specs.declared.raw.RawNode.{RawNode}
 use Rattle.cep_parse.specs.declared.raw.RawAtom.{RawAtom}
-use Rattle.cep_base.specs.Kinds.{is_of_facts}
-use Rattle.cep_source.specs.Items.{Source, PredItem, said}
-use Rattle.cep_source.specs.Spaces.{pred_named}
-use Rattle.cep_source.specs.Starts.{is_of_fact, is_node_alike, are_nodes_alike, is_written_alike, counting_behind, counting}
+use Rattle.cep_source.specs.Items.{Source, said}
+use Rattle.cep_source.specs.Starts.{is_of_fact, is_node_alike, are_nodes_alike, is_written_alike, counting_behind}
 use Rattle.cep_faults.specs.Counted.{facts_counting}
 use Rattle.cep_faults.specs.FactKeys.{mark, stop, name_key, count_key, node_key, atom_key}
 
 both_true : (a b : Bool) → (a && b) ≡ true → (a ≡ true) × (b ≡ true)
-both_true true b e = (refl, e)
-both_true false b e = absurd cc
+both_true a b e = grind arith
 
 -- Keys
 
@@ -34,19 +30,14 @@ mark_or_stop xs ys e = let here : ◌≡◌ {A = ℕ} 43 46 = first_byte 43 46 x
 -- a name's key ends by itself
 name_again : (one other rest rest' : List ℕ) → name_key one ++ rest ≡ name_key other ++ rest' → (one ≡ other) × (rest ≡ rest')
 name_again [] [] rest rest' e = (refl, cc)
-name_again [] (y ∷ other) rest rest' e = absurd (stop_or_mark rest (y ∷ name_key other ++ rest') e)
-name_again (x ∷ one) [] rest rest' e = absurd (mark_or_stop (x ∷ name_key one ++ rest) rest' e)
-name_again (x ∷ one) (y ∷ other) rest rest' e =
-    let more = name_again one other rest rest' cc in
-    let here : x ≡ y = cc in
-    (cc, more.1)
+name_again (x ∷ one) (y ∷ other) rest rest' e = grind (arith, name_again one other rest rest' cc)
+name_again one other rest rest' e = grind (arith, stop_or_mark, mark_or_stop)
 
 -- and so does that of a number
 count_again : (n m : ℕ) (rest rest' : List ℕ) → count_key n ++ rest ≡ count_key m ++ rest' → (n ≡ m) × (rest ≡ rest')
 count_again zero zero rest rest' e = (refl, cc)
-count_again zero (suc m) rest rest' e = absurd (stop_or_mark rest (count_key m ++ rest') e)
-count_again (suc n) zero rest rest' e = absurd (mark_or_stop (count_key n ++ rest) rest' e)
 count_again (suc n) (suc m) rest rest' e = let more = count_again n m rest rest' cc in (ap suc more.0, more.1)
+count_again n m rest rest' e = grind (arith, stop_or_mark, mark_or_stop)
 
 same_bytes : (one other : List ℕ) → one ≡ other → bytes_eq one other ≡ true
 same_bytes one other is = (bytes_eq-Decides one other).1 is
@@ -76,16 +67,12 @@ module _ (source : Source) where
       (nodes_again ones others second.1)
 
   nodes_keyed : (ones others : List RawNode) → are_nodes_alike source ones others ≡ true → flat_map (node_key source) ones ≡ flat_map (node_key source) others
-  nodes_keyed [] [] alike = refl
-  nodes_keyed [] (other ∷ others) alike = absurd cc
-  nodes_keyed (one ∷ ones) [] alike = absurd cc
   nodes_keyed (one ∷ ones) (other ∷ others) alike =
       let parts = both_true (is_node_alike source one other) (are_nodes_alike source ones others) alike in
       let node_ = both_true (bytes_eq (said source one.at) (said source other.at)) (one.args == other.args) parts.0 in
       let name = (bytes_eq-Decides (said source one.at) (said source other.at)).0 node_.0 in
-      let count = eqb-true one.args other.args node_.1 in
-      let rest = nodes_keyed ones others parts.1 in
-      λ i. (name_key (name i) ++ count_key (count i)) ++ rest i
+      λ i. (name_key (name i) ++ count_key ((eqb-true one.args other.args node_.1) i)) ++ (nodes_keyed ones others parts.1) i
+  nodes_keyed ones others alike = grind arith
 
   -- keys are equal if and only if two atoms are written alike
   pub keys_tell : (one other : RawAtom) → bytes_eq (atom_key source one) (atom_key source other) ≡ is_written_alike source one other
@@ -108,10 +95,7 @@ module _ (source : Source) where
   -- Facts that count
 
   or_swap : (p q r : Bool) → (q || (p || r)) ≡ ((p || q) || r)
-  or_swap true true r = refl
-  or_swap true false r = refl
-  or_swap false true r = refl
-  or_swap false false r = refl
+  or_swap p q r = grind arith
 
   -- one atom more counts unless it is a fact that is written like one before it
   pub one_counts : (before atoms : List RawAtom) (a : RawAtom)
@@ -135,45 +119,15 @@ module _ (source : Source) where
 
   -- atoms that are written alike are facts alike
   fact_alike : (a x : RawAtom) → is_written_alike source a x ≡ true → is_of_fact source a ≡ is_of_fact source x
-  fact_alike a x alike =
-      let parts = both_true (bytes_eq (said source a.name) (said source x.name) && (a.args == x.args)) (are_nodes_alike source a.nodes x.nodes) alike in
-      let heads = both_true (bytes_eq (said source a.name) (said source x.name)) (a.args == x.args) parts.0 in
-      ap (λ (name : List ℕ). is_fact_named name) ((bytes_eq-Decides (said source a.name) (said source x.name)).0 heads.0)
-    where
-      is_fact_named : List ℕ → Bool
-      is_fact_named name = unwrap_or (option_map is_of_facts (option_map (λ (pred : PredItem). pred.kind) (pred_named source name))) false
+  fact_alike a x alike = grind (arith, both_true, bytes_eq-Decides, a.name, x.name, a.args, x.args, a.nodes, x.nodes)
 
   pub among_facts : (a : RawAtom) (atoms : List RawAtom) → is_of_fact source a ≡ true → list_any (is_written_alike source a) atoms ≡ list_any (is_written_alike source a) (filter (is_of_fact source) atoms)
   among_facts a [] fact = refl
-  among_facts a (x ∷ atoms) fact = by (is_written_alike source a x) (is_of_fact source x) refl (λ alike. sym (fact_alike a x alike) ∙ fact) (among_facts a atoms fact)
-    where
-      by : (b f : Bool) → is_written_alike source a x ≡ b → (b ≡ true → f ≡ true) → list_any (is_written_alike source a) atoms ≡ list_any (is_written_alike source a) (filter (is_of_fact source) atoms)
-          → (b || list_any (is_written_alike source a) atoms) ≡ list_any (is_written_alike source a) (if f then x ∷ filter (is_of_fact source) atoms else filter (is_of_fact source) atoms)
-      by b true is follows rest = ap (λ t. b || t) rest ∙ ap (λ t. t || list_any (is_written_alike source a) (filter (is_of_fact source) atoms)) (sym is)
-      by true false is follows rest = let never : ◌≡◌ {A = Bool} false true = follows refl in absurd cc
-      by false false is follows rest = rest
+  among_facts a (x ∷ atoms) fact = grind (arith, fact_alike, among_facts a atoms fact)
 
   -- whether an atom is a fact that counts after others
   abbrev pub is_new : List RawAtom → RawAtom → Bool
   is_new atoms a = is_of_fact source a && not (list_any (is_written_alike source a) (facts_counting source atoms))
 
   pub one_fact : (atoms : List RawAtom) (a : RawAtom) → facts_counting source (atoms ++ a ∷ []) ≡ facts_counting source atoms ++ (if is_new atoms a then a ∷ [] else [])
-  one_fact atoms a =
-      ap (filter (is_of_fact source)) (one_counts [] atoms a) ∙ filter-append (is_of_fact source) (counting source atoms) _ ∙ ap (λ xs. facts_counting source atoms ++ xs) (by (is_of_fact source a) refl)
-    where
-      all : Bool
-      all = list_any (is_written_alike source a) (counting source atoms)
-
-      or_none : (t : Bool) → (t || false) ≡ t
-      or_none true = refl
-      or_none false = refl
-
-      last : (t u : Bool) → is_of_fact source a ≡ true → t ≡ u → filter (is_of_fact source) (if t then [] else a ∷ []) ≡ (if not u then a ∷ [] else [])
-      last true true fact same = refl
-      last false false fact same = rw fact refl
-      last true false fact same = absurd cc
-      last false true fact same = absurd cc
-
-      by : (f : Bool) → is_of_fact source a ≡ f → filter (is_of_fact source) (if f && (all || false) then [] else a ∷ []) ≡ (if f && not (list_any (is_written_alike source a) (facts_counting source atoms)) then a ∷ [] else [])
-      by true fact = last (all || false) (list_any (is_written_alike source a) (facts_counting source atoms)) fact (or_none all ∙ among_facts a (counting source atoms) fact)
-      by false fact = rw fact refl
+  one_fact atoms a = grind (arith, one_counts, filter-append, among_facts)

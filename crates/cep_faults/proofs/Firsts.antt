@@ -1,5 +1,5 @@
 -- The first fault of lists of faults, as it is noted part by part.
-use Rattle.std.proofs.Common.{Some, None, refl, ◌≡◌, ◌<◌, ◌≤◌, ℕ, ◌+◌, length, take, get_or, List, [], ◌∷◌, ◌++◌, map, Option, sym, ◌∙◌, ap, append-nil, append_assoc}
+use Rattle.std.proofs.Common.{None, refl, ◌≡◌, ◌<◌, ◌≤◌, ℕ, ◌+◌, length, take, get_or, List, [], ◌∷◌, ◌++◌, map, Option, sym, ◌∙◌, ap, append-nil, append_assoc, arith}
 use Rattle.std.specs.Option.{MatchOption, IsSomeAnd, option_map}
 use Rattle.std.specs.List.{flat_map}
 use Rattle.std.proofs.lemmas.Grind.{flat_map-append}
@@ -33,9 +33,7 @@ noted_at f front xs i d old item new h was is_item is = noted f front xs i d (ge
 
 -- what is noted of one item in two parts
 pub noted_then : (one two : List Fault) (old first mid second new : Option Fault) → mid ≡ first_of old first → first ≡ first_in one → second ≡ first_in two → new ≡ first_of mid second → new ≡ first_of old (first_in (one ++ two))
-noted_then one two old first mid second new was a b is =
-    is ∙ ap (λ (o : Option Fault). first_of o second) (was ∙ ap (first_of old) a) ∙ ap (first_of (first_of old (first_in one))) b
-    ∙ sym (foremost_of_three standing old (first_in one) (first_in two)) ∙ ap (first_of old) (sym (first_in_append one two))
+noted_then one two old first mid second new was a b is = cc (is, was, a, b, foremost_of_three standing old (first_in one) (first_in two), first_in_append one two)
 
 -- all items of a loop
 pub all_noted : {X : Type 0} (f : X → List Fault) (front : List Fault) (xs : List X) (i : ℕ) (first : Option Fault) → length xs ≤ i → first ≡ first_in (front ++ flat_map f (take i xs)) → first ≡ first_in (front ++ flat_map f xs)
@@ -48,10 +46,7 @@ all_mapped f v xs ys i first done are is = all_noted (λ x. f (v x)) [] xs i fir
 
 -- what `map` gives, where its closure computes f
 pub mapped_by : {X Y : Type 0} {P : X → Y → Type 0} (f : X → Y) (o : Option X) (r : Option Y) → ((x : X) (y : Y) → P x y → y ≡ f x) → MatchOption o (r ≡ None) (λ x. IsSomeAnd r (P x)) → r ≡ option_map f o
-mapped_by f None r gives is = is
-mapped_by f (Some x) None gives is = absurd is
-mapped_by f (Some x) (Some y) gives is = ap Some (gives x y is)
+mapped_by f o r gives is = grind arith
 
 pub mapped_twice : {X Y Z : Type 0} (g : Y → Z) (f : X → Y) (o : Option X) (named : Option Y) → option_map f o ≡ named → option_map (λ x. g (f x)) o ≡ option_map g named
-mapped_twice g f None named is = ap (option_map g) is
-mapped_twice g f (Some x) named is = ap (option_map g) is
+mapped_twice g f o named is = grind arith

@@ -1,5 +1,5 @@
 -- What is found is wrong.
-use Rattle.std.proofs.Common.{◌≡◌, ◌≢◌, ℕ, ⊎_elim, ◌==◌, Bool, true, false, ◌&&◌, ◌||◌, not, nat_lt, nat_le, if◌then◌else◌, List, [], ◌∷◌, ◌++◌, length, map, filter, Option, Some, None, is_some, refl, ap, sym, ◌∙◌, count_by}
+use Rattle.std.proofs.Common.{◌≡◌, ◌≢◌, ℕ, ⊎_elim, ◌==◌, Bool, true, false, ◌&&◌, ◌||◌, not, nat_lt, nat_le, if◌then◌else◌, List, [], ◌∷◌, ◌++◌, length, map, filter, Option, Some, None, is_some, refl, ap, sym, ◌∙◌, arith}
 use Rattle.std.specs.Option.{option_map}
 use Rattle.std.specs.List.{flat_map, slice_get, sum_by}
 use Rattle.std.proofs.lemmas.Bool.{false≢true, le-leb, eq-eqb, eqb-false, ltb-true, or_cases}
@@ -27,11 +27,11 @@ use Rattle.cep_source.specs.Spaces.{is_in, pred_named, con_named, kind_of}
 use Rattle.cep_source.specs.Uses.{uses_in, needed_atoms, made_atoms, clause_atoms, state_atoms, atoms_written, stands_for_context, stages_at, stages_named, contexts_at, applied_at}
 use Rattle.cep_source.specs.Variables.{Occurrence, variables_of}
 use Rattle.cep_source.specs.Starts.{IsFitWritten, nodes_written, depth_written, start_atoms, counting, turns_said}
-use Rattle.cep_faults.specs.Misnamed.{Misnamed, IsQuiRule, is_qui}
+use Rattle.cep_faults.specs.Misnamed.{Misnamed, IsQuiRule}
 use Rattle.cep_faults.specs.Misnamed.Misnamed.{unknown, wrong_kind, wrong_arity, wrong_term_arity, variable_in_state, backward_in_state, linear_in_clause, bad_qui, no_trace, two_traces, over}
 use Rattle.cep_faults.specs.Premises.{state_premises_of, backward_of}
 use Rattle.cep_faults.specs.Limits.{IsOver, arguments_of}
-use Rattle.cep_faults.specs.Faults.{is_somewhere, lack_faults, use_faults, arity_faults, pred_arity, pred_faults, con_arity, kind_faults, node_faults, names_faults, back_by, back_faults, linear_by, linear_faults, clause_atom_faults, elem_faults, is_fit, unfit_faults, state_faults, listed_faults, past, past_most, argument_faults, predicate_faults, con_faults, premise_faults, right_faults, is_stage, is_qui_rule, home_faults, variable_faults, rule_faults, clause_faults, context_faults, begin_faults, turns_faults, trace_faults}
+use Rattle.cep_faults.specs.Faults.{is_somewhere, lack_faults, use_faults, arity_faults, pred_arity, pred_faults, con_arity, kind_faults, node_faults, names_faults, back_by, back_faults, linear_by, linear_faults, clause_atom_faults, elem_faults, is_fit, unfit_faults, state_faults, listed_faults, past, past_most, argument_faults, predicate_faults, con_faults, premise_faults, right_faults, is_qui_rule, home_faults, variable_faults, rule_faults, clause_faults, context_faults, begin_faults, turns_faults, trace_faults}
 use Rattle.cep_faults.specs.Totals.{count_faults, start_faults, two_faults, traces_faults, all_faults}
 use Rattle.cep_base.proofs.Members.{In, here, in_nil, in_one, in_same, in_left, in_right, in_parts, through, via, image, mapped, to_contains}
 use Rattle.cep_faults.proofs.Spread.{differing, holding, kept_in, somewhere, nowhere, stage_count}
@@ -43,13 +43,10 @@ not_fit : (atom : RawAtom) → is_fit atom ≡ false → ¬ IsFitWritten atom
 not_fit atom e is = false≢true (sym e ∙ both_true (nat_le (nodes_written atom) MOST_NODES) (nat_le (depth_written atom) MOST_DEPTH) (le-leb (nodes_written atom) MOST_NODES is.nodes) (le-leb (depth_written atom) MOST_DEPTH is.depth))
 
 not_qui : (rule : RawRule) → is_qui_rule rule ≡ false → ¬ IsQuiRule rule
-not_qui rule e is =
-    false≢true (sym e ∙ both_true (count_by is_qui rule.left == 1) _ (eq-eqb _ _ is.qui)
-    (both_true (count_by is_stage rule.left == 1) _ (eq-eqb _ _ (stage_count rule.left ∙ is.from)) (eq-eqb _ _ (stage_count rule.right ∙ is.to))))
+not_qui rule e is = grind (arith, both_true, eq-eqb, stage_count, rule.left, is.qui, is.from, rule.right, is.to)
 
 none_of : {X : Type 0} (o : Option X) → is_some o ≡ false → o ≡ None
-none_of None e = refl
-none_of (Some x) e = absurd cc
+none_of o e = grind arith
 
 module _ (source : Source) where
   -- each of these is wrong
@@ -90,8 +87,7 @@ module _ (source : Source) where
       wrong_term_arity node con (to_contains (raw_nodes (atoms_written source)) node m) app is (eqb-false node.args (length con.args) d.0) d.1
 
   open_sound : (of_state : Bool) (node : RawNode) → (of_state ≡ true → In (raw_nodes (state_atoms source)) node) → node.kind ≢ kind.App → AreWrong (let found : List Fault = if of_state then wrong VarInContext node.at.from ∷ [] else [] in found)
-  open_sound of_state node m apart fault found =
-      let h = holding of_state (wrong VarInContext node.at.from) fault found in variable_in_state node (to_contains (raw_nodes (state_atoms source)) node (m h.0)) apart h.1
+  open_sound of_state node m apart fault found = let h = holding of_state (wrong VarInContext node.at.from) fault found in variable_in_state node (to_contains (raw_nodes (state_atoms source)) node (m h.0)) apart h.1
 
   node_sound : (of_state : Bool) (node : RawNode) (its : RawKind) → In (raw_nodes (atoms_written source)) node → (of_state ≡ true → In (raw_nodes (state_atoms source)) node) → node.kind ≡ its → AreWrong (kind_faults source of_state its node)
   node_sound of_state node kind.App m s is =
@@ -111,20 +107,16 @@ module _ (source : Source) where
       (via (λ (other : RawAtom). other.nodes) (atoms_written source) atom node m at) (λ yes_. via (λ (other : RawAtom). other.nodes) (state_atoms source) atom node (s yes_) at) refl))
 
   back_sound : (atom : RawAtom) (its : Option PredKind) → In (made_atoms source ++ state_atoms source) atom → kind_of source atom ≡ its → AreWrong (back_by its atom.name.from)
-  back_sound atom None m is = nothing
-  back_sound atom (Some Linear) m is = nothing
-  back_sound atom (Some Fact) m is = nothing
   back_sound atom (Some Back) m is = λ fault found. backward_in_state atom (to_contains (made_atoms source ++ state_atoms source) atom m) is (in_one _ fault found)
+  back_sound atom its m is = nothing
 
   linear_sound : (atom : RawAtom) (its : Option PredKind) → In (clause_atoms source) atom → kind_of source atom ≡ its → AreWrong (linear_by its atom.name.from)
-  linear_sound atom None m is = nothing
-  linear_sound atom (Some Back) m is = nothing
   linear_sound atom (Some Linear) m is = λ fault found. linear_in_clause atom Linear (to_contains (clause_atoms source) atom m) is refl (in_one _ fault found)
   linear_sound atom (Some Fact) m is = λ fault found. linear_in_clause atom Fact (to_contains (clause_atoms source) atom m) is refl (in_one _ fault found)
+  linear_sound atom its m is = nothing
 
   unfit_sound : (atom : RawAtom) → In (state_atoms source) atom → AreWrong (unfit_faults atom)
-  unfit_sound atom m fault found =
-      let d = differing (is_fit atom) (wrong OverLimit atom.name.from) fault found in over atom.name.from (IsOver.unfit atom (to_contains (state_atoms source) atom m) (not_fit atom d.0) refl) d.1
+  unfit_sound atom m fault found = let d = differing (is_fit atom) (wrong OverLimit atom.name.from) fault found in over atom.name.from (IsOver.unfit atom (to_contains (state_atoms source) atom m) (not_fit atom d.0) refl) d.1
 
   state_written : (atom : RawAtom) → In (state_atoms source) atom → In (atoms_written source) atom
   state_written atom m = in_right (needed_atoms source) _ atom (in_right (made_atoms source) _ atom (in_right (clause_atoms source) _ atom m))
@@ -176,8 +168,7 @@ module _ (source : Source) where
       (in_right (map (λ (other : ConItem). other.args) (cons_of source)) _ pred.args (mapped (λ (other : PredItem). other.args) (preds_of source) pred m))
 
   con_use : (con : ConItem) → In (cons_of source) con → (name : Span) → In (con.args ++ con.sort ∷ []) name → In (uses_in source space.Sorts) name
-  con_use con m name at =
-      in_right (flat_map (λ (other : PredItem). other.args) (preds_of source)) _ name (via (λ (other : ConItem). other.args ++ other.sort ∷ []) (cons_of source) con name m at)
+  con_use con m name at = grind (arith, in_right, via)
 
   con_sound : (con : ConItem) → In (cons_of source) con → AreWrong (con_faults source con)
   con_sound con m =
@@ -187,9 +178,7 @@ module _ (source : Source) where
 
   -- rules
   stage_use : (rule : RuleItem) → In (rules_of source) rule → (name : Span) → In (stages_named rule.raw.left ++ stages_named rule.raw.right) name → In (uses_in source space.Stages) name
-  stage_use rule m name at =
-      in_left (flat_map (λ (other : RuleItem). stages_named other.raw.left ++ stages_named other.raw.right) (rules_of source)) _ name
-      (via (λ (other : RuleItem). stages_named other.raw.left ++ stages_named other.raw.right) (rules_of source) rule name m at)
+  stage_use rule m name at = grind (arith, in_left, via)
 
   left_sound : (rule : RuleItem) → In (rules_of source) rule → (elem_ : RawElem) → In rule.raw.left elem_ → AreWrong (elem_faults source false elem_)
   left_sound rule m elem_ at =

@@ -1,5 +1,5 @@
 -- The faults of the first trace and of those after it.
-use Rattle.std.proofs.Common.{◌≡◌, ℕ, ◌+◌, ◌<◌, ◌≤◌, List, [], ◌∷◌, ◌++◌, length, get_or, take, map, Option, Some, refl, ap, sym, ◌∙◌}
+use Rattle.std.proofs.Common.{◌≡◌, ℕ, ◌+◌, ◌<◌, ◌≤◌, List, [], ◌∷◌, ◌++◌, length, get_or, take, map, Option, Some, refl, ap, sym, ◌∙◌, arith}
 use Rattle.std.proofs.lemmas.List.{map-append, take_more, take_all}
 use Rattle.std.proofs.lemmas.Simd.{map-map}
 use Rattle.cep_refusal.specs.declared.fault.Fault.{Fault}
@@ -28,10 +28,7 @@ two_all refs i first h is = is ∙ ap (λ (ts : List TraceRef). first_in (map tw
 module _ (source : Source) (refs : List TraceRef) (are : map trace_item refs ≡ traces_of source) where
   pub some_traces : (trace : TraceRef) (rest : List TraceRef) (one two all : Option Fault) → refs ≡ trace ∷ rest → one ≡ first_in (start_faults source (trace_item trace)) → two ≡ first_in (two_faults (map trace_item rest)) → all ≡ first_of one two
       → all ≡ first_in (traces_faults source (traces_of source))
-  some_traces trace rest one two all here is_one is_two is =
-      is ∙ ap (λ o. first_of o two) is_one ∙ ap (first_of (first_in (start_faults source (trace_item trace)))) is_two
-      ∙ sym (first_in_append (start_faults source (trace_item trace)) (two_faults (map trace_item rest)))
-      ∙ ap (λ traces. first_in (traces_faults source traces)) (sym (ap (map trace_item) here) ∙ are)
+  some_traces trace rest one two all here is_one is_two is = grind (arith, two, first_in_append)
 
   pub no_traces : (fault : Fault) → length refs ≡ 0 → fault ≡ wrong NoTrace (length source.text) → Some fault ≡ first_in (traces_faults source (traces_of source))
   no_traces fault none is = ap Some is ∙ ap (λ traces. first_in (traces_faults source traces)) (sym (ap (map trace_item) (empty refs none)) ∙ are) where
