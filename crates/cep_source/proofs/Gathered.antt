@@ -1,5 +1,5 @@
 -- The names of each space are those of the items that were gathered.
-use Rattle.std.proofs.Common.{◌≡◌, ℕ, List, [], ◌∷◌, map, Option, Some, None, refl, ap, sym, subst, ◌∙◌}
+use Rattle.std.proofs.Common.{◌≡◌, ℕ, List, [], ◌∷◌, map, Option, refl, ap, sym, subst, ◌∙◌, arith}
 use Rattle.std.proofs.lemmas.Simd.{map-map}
 use Rattle.cep_parse.specs.declared.raw.Span.{Span}
 use Rattle.cep_refusal.specs.declared.fault.Fault.{Fault}
@@ -10,7 +10,7 @@ use Rattle.cep_source.specs.declared.table.Table.{Table}
 use Rattle.cep_source.specs.declared.source.Source.TheInside.{Inside}
 use Rattle.cep_source.specs.Kept.{IsGathered, source_of, con_item, pred_item, context_item, rule_item}
 use Rattle.cep_source.specs.Items.{Source, RuleItem, cons_of, preds_of, contexts_of}
-use Rattle.cep_source.specs.Spaces.{Named, named, names_in, rule_name, rule_names_from, unlabelled_behind}
+use Rattle.cep_source.specs.Spaces.{Named, named, names_in, rule_name, rule_names_from}
 use Rattle.cep_base.specs.FirstNames.{under_name}
 use Rattle.cep_source.specs.Firsts.{IsTable, place_among, again_among, text_alone}
 
@@ -21,13 +21,11 @@ items_named source item span refs all are = sym (map-map (λ y. named source (sp
 
 -- the names of rules
 rule_alone : (source : Source) (unlabelled : ℕ) (label : Option Span) → rule_name (text_alone source.text) unlabelled label ≡ rule_name source unlabelled label
-rule_alone source unlabelled None = refl
-rule_alone source unlabelled (Some label) = refl
+rule_alone source unlabelled label = refl
 
 pub names_alone : (source : Source) (unlabelled : ℕ) (rules : List RuleItem) → rule_names_from (text_alone source.text) unlabelled rules ≡ rule_names_from source unlabelled rules
 names_alone source unlabelled [] = refl
-names_alone source unlabelled (rule ∷ rules) =
-    λ i. record { name = rule_alone source unlabelled rule.raw.label i; at = rule.raw.at } ∷ names_alone source (unlabelled_behind unlabelled rule.raw.label) rules i
+names_alone source unlabelled (rule ∷ rules) = grind (arith, rule_alone, source, rule.raw.label, rule.raw.at)
 
 -- what is known of the names of a space
 pub record AreKnown (names : List Named) (table : List (List ℕ × ℕ)) (fault : Option Fault) : Type 0 where

@@ -1,5 +1,5 @@
 -- A name that has a place is in its space.
-use Rattle.std.proofs.Common.{◌≡◌, ℕ, ◌+◌, Bool, true, false, ◌||◌, ◌==◌, ◌&&◌, not, cond, if◌then◌else◌, List, [], ◌∷◌, map, length, Some, is_some, refl, ap, sym, ◌∙◌}
+use Rattle.std.proofs.Common.{◌≡◌, ℕ, ◌+◌, Bool, ◌==◌, ◌&&◌, not, List, [], ◌∷◌, map, length, is_some, refl, ap, ◌∙◌, arith}
 use Rattle.std.specs.List.{list_any, position_from}
 use Rattle.std.specs.Str.{bytes_eq}
 use Rattle.std.proofs.lemmas.Iterator.Adapters.{position_from-zero}
@@ -7,9 +7,8 @@ use Rattle.cep_parse.specs.declared.raw.Span.{Span}
 use Rattle.cep_parse.specs.declared.raw.RawItem.{RawItem}
 use Rattle.cep_base.proofs.Bytes.{any_map}
 use Rattle.cep_source.specs.declared.space.Space.{Space}
-use Rattle.cep_source.specs.declared.items.RawPred.{RawPred}
 use Rattle.cep_source.specs.declared.gathering.Kinds.{Kinds}
-use Rattle.cep_source.specs.Kept.{AreKinds, HaveTheirNames, pred_item}
+use Rattle.cep_source.specs.Kept.{AreKinds, HaveTheirNames}
 use Rattle.cep_source.specs.Items.{Source, said, is_said, sorts_of, preds_of, is_labelled}
 use Rattle.cep_base.specs.FirstNames.{has_name, under_name}
 use Rattle.cep_source.specs.Firsts.{place_among}
@@ -17,20 +16,14 @@ use Rattle.cep_source.specs.Spaces.{Named, named, names_in, is_in, first_place}
 
 has_from : {X : Type 0} (p : X → Bool) (i : ℕ) (xs : List X) → is_some (position_from p i xs) ≡ list_any p xs
 has_from p i [] = refl
-has_from p i (x ∷ xs) = step (p x) (has_from p (i + 1) xs) where
-  step : (b : Bool) → is_some (position_from p (i + 1) xs) ≡ list_any p xs → is_some (cond b (Some i) (position_from p (i + 1) xs)) ≡ (b || list_any p xs)
-  step true h = refl
-  step false h = h
+has_from p i (x ∷ xs) = grind (arith, has_from p (i + 1) xs)
 
 pub has_place : (names : List Named) (name : List ℕ) → is_some (place_among names name) ≡ list_any (λ other. bytes_eq other.name name) names
 has_place names name = ap is_some (position_from-zero (λ other. bytes_eq other.name name) names) ∙ has_from (λ other. bytes_eq other.name name) 0 names
 
 pub has_under : (table : List (List ℕ × ℕ)) (name : List ℕ) → has_name table name ≡ is_some (under_name table name)
 has_under [] name = refl
-has_under (entry ∷ table) name = step (bytes_eq name entry.0) (has_under table name) where
-  step : (b : Bool) → has_name table name ≡ is_some (under_name table name) → (b || has_name table name) ≡ is_some (if b then Some entry.1 else under_name table name)
-  step true h = refl
-  step false h = h
+has_under (entry ∷ table) name = grind (arith, entry.0, has_under table name, entry.1)
 
 pub placed_in : (source : Source) (space_ : Space) (name : List ℕ) → is_some (first_place source space_ name) ≡ is_in source space_ name
 placed_in source space_ name = has_place (names_in source space_) name
@@ -41,15 +34,10 @@ module _ (text : List ℕ) (file : List RawItem) (kinds : Kinds) (are : AreKinds
   source = record { text = text; file = file }
 
   sorts_said : (name : List ℕ) → has_name kinds.sorts.places name ≡ is_said source (sorts_of source) name
-  sorts_said name =
-      has_under kinds.sorts.places name ∙ ap is_some (named_by.sorts.places name) ∙ has_place _ name ∙ any_map (λ other. bytes_eq other.name name) (named source) kinds.sorts.items.items
-      ∙ ap (λ (spans : List Span). is_said source spans name) are.sorts
+  sorts_said name = rw (has_under kinds.sorts.places name, named_by.sorts.places name, has_place _ name, any_map (λ other. bytes_eq other.name name) (named source) kinds.sorts.items.items, are.sorts)
 
   preds_said : (name : List ℕ) → has_name kinds.preds.places name ≡ is_said source (map (λ pred. pred.name) (preds_of source)) name
-  preds_said name =
-      has_under kinds.preds.places name ∙ ap is_some (named_by.preds.places name) ∙ has_place _ name ∙ any_map (λ other. bytes_eq other.name name) (λ (pred : RawPred). named source pred.name) kinds.preds.items.items
-      ∙ sym (any_map (λ pred. bytes_eq (said source pred.name) name) pred_item kinds.preds.items.items) ∙ ap (list_any (λ pred. bytes_eq (said source pred.name) name)) are.preds
-      ∙ sym (any_map (λ span. bytes_eq (said source span) name) (λ pred. pred.name) (preds_of source))
+  preds_said name = grind (arith, has_under, has_place, any_map, source, kinds.preds.places, named_by.preds.places, kinds.preds.items.items, are.preds)
 
   pub labelled_by : (args : List Span) (right : Span) (name : List ℕ) → name ≡ said source right
       → ((length args == 0) && (not (has_name kinds.sorts.places name) && has_name kinds.preds.places name)) ≡ is_labelled source args right

@@ -1,5 +1,5 @@
 -- The variables that are met node by node are those of the atoms.
-use Rattle.std.proofs.Common.{◌≡◌, ℕ, ◌+◌, ◌<◌, Bool, true, false, ◌||◌, if◌then◌else◌, List, [], ◌∷◌, ◌++◌, length, map, take, get_or, codes, decimal, refl, ap, sym, ◌∙◌, append_assoc, append-nil}
+use Rattle.std.proofs.Common.{◌≡◌, ℕ, ◌+◌, ◌<◌, Bool, true, false, ◌||◌, if◌then◌else◌, List, [], ◌∷◌, ◌++◌, length, map, take, get_or, codes, decimal, refl, ap, sym, ◌∙◌, append_assoc, append-nil, arith}
 use Rattle.std.specs.Str.{bytes_eq}
 use Rattle.std.specs.List.{list_any}
 use Rattle.std.proofs.lemmas.List.Sums.{fold-append}
@@ -21,11 +21,7 @@ use Rattle.cep_source.proofs.Lookups.{taken}
 
 any_end : {X : Type 0} (p : X → Bool) (xs : List X) (x : X) → list_any p (xs ++ x ∷ []) ≡ (p x || list_any p xs)
 any_end p [] x = refl
-any_end p (y ∷ xs) x = ap (λ b. p y || b) (any_end p xs x) ∙ turn (p y) (p x) (list_any p xs) where
-  turn : (a b c : Bool) → (a || (b || c)) ≡ (b || (a || c))
-  turn true true c = refl
-  turn true false c = refl
-  turn false b c = refl
+any_end p (y ∷ xs) x = grind (arith, any_end p xs x)
 
 abbrev pair : Occurrence → List ℕ × Span
 pair occurrence = (occurrence.name, occurrence.at)
@@ -70,18 +66,11 @@ module _ (source : Source) where
 
   blanks_met : (old : Variables) (nodes : List RawNode) → (met_nodes source old nodes).blanks ≡ blanks_after old.blanks nodes
   blanks_met old [] = refl
-  blanks_met old (node ∷ nodes) = blanks_met (met_site source old node.kind node.at node.at) nodes ∙ ap (λ blanks. blanks_after blanks nodes) (by_kind node.kind) where
-    by_kind : (kind_ : RawKind) → (met_site source old kind_ node.at node.at).blanks ≡ blanks_behind old.blanks kind_
-    by_kind kind.App = refl
-    by_kind kind.Var = refl
-    by_kind kind.Blank = refl
+  blanks_met old (node ∷ nodes) = grind (arith, blanks_met (met_site source old node.kind node.at node.at) nodes, node.kind, node.at, old.blanks)
 
   -- all nodes of the atoms were met
   pub are_variables : (atoms : List RawAtom) (variables : Variables) → variables ≡ met_nodes source none_met (raw_nodes atoms) → AreVariables source atoms variables
-  are_variables atoms variables is = record {
-    firsts = ap (λ (v : Variables). v.firsts) is ∙ firsts_met 0 (raw_nodes atoms) [] [] (λ name. refl);
-    blanks = ap (λ (v : Variables). v.blanks) is ∙ blanks_met none_met (raw_nodes atoms);
-  }
+  are_variables atoms variables is = record { firsts = ap (λ (v : Variables). v.firsts) is ∙ firsts_met 0 (raw_nodes atoms) [] [] (λ name. refl); blanks = ap (λ (v : Variables). v.blanks) is ∙ blanks_met none_met (raw_nodes atoms); }
 
   -- the nodes of one more item
   met_more : {X : Type 0} (nodes_of : List X → List RawNode) (xs : List X) (i : ℕ) (x : X) (nodes : List RawNode) → nodes_of (take i xs ++ x ∷ []) ≡ nodes_of (take i xs) ++ nodes → i < length xs → x ≡ get_or xs i x

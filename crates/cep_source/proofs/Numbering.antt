@@ -1,5 +1,5 @@
 -- One rule more, and its name.
-use Rattle.std.proofs.Common.{◌≡◌, ℕ, List, [], ◌∷◌, ◌++◌, Option, map, ap, subst, refl, sym, ◌∙◌}
+use Rattle.std.proofs.Common.{◌≡◌, ℕ, List, [], ◌∷◌, ◌++◌, Option, map, refl, arith}
 use Rattle.std.proofs.lemmas.List.{map-append}
 use Rattle.cep_parse.specs.declared.raw.Span.{Span}
 use Rattle.cep_source.specs.declared.items.RuleRef.{RuleRef}
@@ -16,8 +16,7 @@ over_more unlabelled (x ∷ items) item = over_more (unlabelled_behind unlabelle
 names_push : (source : Source) (unlabelled : ℕ) (items : List RuleItem) (item : RuleItem)
     → rule_names_from source unlabelled (items ++ item ∷ []) ≡ rule_names_from source unlabelled items ++ record { name = rule_name source (unlabelled_over unlabelled items) item.raw.label; at = item.raw.at } ∷ []
 names_push source unlabelled [] item = refl
-names_push source unlabelled (x ∷ items) item =
-    ap (λ (ns : List Named). record { name = rule_name source unlabelled x.raw.label; at = x.raw.at } ∷ ns) (names_push source (unlabelled_behind unlabelled x.raw.label) items item)
+names_push source unlabelled (x ∷ items) item = rw (names_push source (unlabelled_behind unlabelled x.raw.label) items item)
 
 module _ (text : List ℕ) (old new : Rules) (rule : RuleRef) (name : List ℕ) (were : AreRules text old) where
   abbrev label : Option Span
@@ -33,20 +32,7 @@ module _ (text : List ℕ) (old new : Rules) (rule : RuleRef) (name : List ℕ) 
       → new.names.items ≡ old.names.items ++ name ∷ [] → new.table.items.items ≡ old.table.items.items ++ rule ∷ []
       → ((names : List Named) → IsTable names old.table → IsTable (names ++ record { name = name; at = rule.raw.now.at } ∷ []) new.table)
       → AreRules text new
-  rule_more called counted pushed listed declared =
-      let items : map rule_item new.table.items.items ≡ before ++ rule_item rule ∷ [] = ap (map rule_item) listed ∙ map-append rule_item old.table.items.items (rule ∷ []) in
-      let now : rule_names_from (text_alone text) 0 (map rule_item new.table.items.items) ≡ names ++ record { name = name; at = rule.raw.now.at } ∷ [] =
-      ap (rule_names_from (text_alone text) 0) items ∙ names_push (text_alone text) 0 before (rule_item rule)
-      ∙ ap (λ (n : List ℕ). names ++ record { name = n; at = rule.raw.now.at } ∷ []) (ap (λ u. rule_name (text_alone text) u label) (sym were.unlabelled) ∙ sym called) in
-      record {
-        names = pushed ∙ ap (λ (ns : List (List ℕ)). ns ++ name ∷ []) were.names ∙ sym (ap (map (λ (n : Named). n.name)) now ∙ map-append (λ (n : Named). n.name) names (record { name = name; at = rule.raw.now.at } ∷ []));
-        table = subst (λ them. IsTable them new.table) (sym now) (declared names were.table);
-        unlabelled = counted ∙ ap (λ u. unlabelled_behind u label) were.unlabelled ∙ sym (ap (unlabelled_over 0) items ∙ over_more 0 before (rule_item rule));
-      }
+  rule_more called counted pushed listed declared = grind (arith, before, map-append, names, names_push, label, over_more)
 
 pub none_ruled : (text : List ℕ) (rules : Rules) → rules.table.items.items ≡ [] → rules.names.items ≡ [] → rules.unlabelled ≡ 0 → IsTable [] rules.table → AreRules text rules
-none_ruled text rules none nameless counted are = record {
-  names = rw (nameless, none) refl;
-  table = subst (λ (refs : List RuleRef). IsTable (rule_names_from (text_alone text) 0 (map rule_item refs)) rules.table) (sym none) are;
-  unlabelled = rw (counted, none) refl;
-}
+none_ruled text rules none nameless counted are = grind (arith, names, rules.table)

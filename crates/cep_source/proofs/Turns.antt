@@ -1,9 +1,8 @@
 -- Numbers of turns that are read.
-use Rattle.std.proofs.Common.{◌≡◌, ℕ, ◌^◌, ◌<◌, ◌≤◌, Bool, true, false, cond, List, [], ◌∷◌, length, drop, Option, Some, None, ◌==◌, ◌&&◌, if◌then◌else◌, nat_le, IsUtf8, IsAscii, refl, sym, ap, subst, ◌∙◌, arith}
+use Rattle.std.proofs.Common.{◌≡◌, ℕ, ◌^◌, ◌<◌, ◌≤◌, Bool, true, List, [], ◌∷◌, length, Option, Some, None, ◌&&◌, if◌then◌else◌, nat_le, IsUtf8, IsAscii, sym, ap, subst, ◌∙◌, arith}
 use Rattle.std.proofs.lemmas.Bool.{leb-true, le-leb, eqb-true, and_parts, and_from}
 use Rattle.std.proofs.lemmas.Fmt.{IsAscii-from_digits}
 use Rattle.std.proofs.lemmas.Str.{IsUtf8-from_ascii}
-use Rattle.std.proofs.lemmas.Str.Ascii.{IsAscii-cons}
 use Rattle.std.proofs.lemmas.Str.Parse.{IsNumeralModel, numerals_by_value, tells_all_ascii_digits}
 use Rattle.std.specs.Str.{all_ascii_digits}
 use Rattle.std.specs.Str.Parse.{IsNumeral, digits_value, without_leading_plus}
@@ -20,26 +19,17 @@ abbrev pub turns_in : List ℕ → Option ℕ
 turns_in bytes = let digits = without_leading_plus bytes in if are_turns digits then Some (digits_value 10 digits) else None
 
 none_by : (b : Bool) (turns : ℕ) → (b ≡ true → ⊥) → (let said : Option ℕ = if b then Some turns else None in said) ≡ None
-none_by true turns never = absurd (never refl)
-none_by false turns never = refl
+none_by b turns never = grind arith
 
 some_by : (b : Bool) (turns : ℕ) → b ≡ true → (let said : Option ℕ = if b then Some turns else None in said) ≡ Some turns
-some_by true turns e = refl
-some_by false turns e = absurd cc
+some_by b turns e = grind arith
 
 ascii : (bytes : List ℕ) → IsAscii (without_leading_plus bytes) → IsAscii bytes
-ascii [] is = is
-ascii (b ∷ bytes) is = by (b == 43) refl is
-  where
-    by : (t : Bool) → (b == 43) ≡ t → IsAscii (drop (cond t 1 0) (b ∷ bytes)) → IsAscii (b ∷ bytes)
-    by true e rest = IsAscii-cons b bytes (let plus = eqb-true b 43 e in omega (arith, plus)) rest
-    by false e all = all
+ascii bytes is = grind (arith, eqb-true)
 
 -- bytes that are no text say no number
 pub no_text : (bytes : List ℕ) → ¬ (IsUtf8 bytes) → turns_in bytes ≡ None
-no_text bytes none =
-    let digits = without_leading_plus bytes in
-    none_by (are_turns digits) (digits_value 10 digits) (λ e. none (IsUtf8-from_ascii bytes (ascii bytes (IsAscii-from_digits digits (numerals.to digits (and_parts _ _ e).0)))))
+no_text bytes none = let digits = without_leading_plus bytes in rw (none_by (are_turns digits) (digits_value 10 digits) (λ e. none (IsUtf8-from_ascii bytes (ascii bytes (IsAscii-from_digits digits (numerals.to digits (and_parts _ _ e).0))))))
 
 some_digit : (digits : List ℕ) → 1 ≤ digits_value 10 digits → 0 < length digits
 some_digit [] none = none

@@ -1,5 +1,5 @@
 -- The first of the names that are declared again.
-use Rattle.std.proofs.Common.{◌≡◌, ℕ, ◌⊎◌, inl, inr, ⊎_elim, Bool, true, false, if◌then◌else◌, List, [], ◌∷◌, ◌++◌, map, Option, get_or, refl, ap, sym, subst, append_assoc, append-nil, arith}
+use Rattle.std.proofs.Common.{◌≡◌, ℕ, ◌⊎◌, ⊎_elim, Bool, true, false, if◌then◌else◌, List, [], ◌∷◌, ◌++◌, map, Option, refl, ap, sym, subst, append_assoc, append-nil, arith}
 use Rattle.std.specs.List.{list_any, Contains}
 use Rattle.std.specs.Str.{bytes_eq}
 use Rattle.std.proofs.lemmas.Bool.{false≢true, or_cases}
@@ -28,8 +28,7 @@ there name (other ∷ names) any =
     (or_cases (bytes_eq other name) (list_any (λ other. bytes_eq other name) names) any)
 
 found : (name : List ℕ) (names : List (List ℕ)) → Contains names name → list_any (λ other. bytes_eq other name) names ≡ true
-found name [] at = absurd (omega (arith, at.1))
-found name (other ∷ names) at = list_any_at (λ other. bytes_eq other name) (other ∷ names) at.0 name at.1 ((bytes_eq-Decides (get_or (other ∷ names) at.0 name) name).1 at.2)
+found name names at = grind (arith, list_any_at, bytes_eq-Decides)
 
 -- a name among some of which others stand before
 record Later (before : List (List ℕ)) (names : List Named) (fault : Fault) : Type 0 where
@@ -80,9 +79,7 @@ module _ (source : Source) where
   Again space_ = Contains (again_among [] (names_in source space_))
 
   again_twice : (space_ : Space) (fault : Fault) → Again space_ fault → IsTwice source fault
-  again_twice space_ fault h =
-      let l = is_later [] (names_in source space_) fault (from_contains (again_among [] (names_in source space_)) fault h) in
-      again space_ l.front l.back l.entry l.are l.earlier l.is
+  again_twice space_ fault h = let l = is_later [] (names_in source space_) fault (from_contains (again_among [] (names_in source space_)) fault h) in again space_ l.front l.back l.entry l.are l.earlier l.is
 
   abbrev first_again : Space → Option Fault
   first_again space_ = first_in (again_among [] (names_in source space_))
@@ -91,12 +88,7 @@ module _ (source : Source) where
   Any fault = ((Again space.Sorts fault ⊎ Again space.Predicates fault) ⊎ (Again space.Stages fault ⊎ Again space.Contexts fault)) ⊎ (Again space.Constructors fault ⊎ Again space.Rules fault)
 
   in_space : (space_ : Space) (fault : Fault) → Again space_ fault → Any fault
-  in_space space.Sorts fault h = inl (inl (inl h))
-  in_space space.Predicates fault h = inl (inl (inr h))
-  in_space space.Stages fault h = inl (inr (inl h))
-  in_space space.Contexts fault h = inl (inr (inr h))
-  in_space space.Constructors fault h = inr (inl h)
-  in_space space.Rules fault h = inr (inr h)
+  in_space space_ fault h = grind arith
 
   twice_again : (fault : Fault) → IsTwice source fault → Any fault
   twice_again fault (again space_ before after entry names earlier is) =
