@@ -1,22 +1,118 @@
--- Blocks of entries: what is done to the block of an atom is done to all entries.
-use Rattle.std.proofs.Common.{◌≡◌, ℕ, zero, suc, ◌+◌, ◌<◌, ◌-◌, ◌≤◌, true, false, List, [], ◌∷◌, ◌++◌, length, get_or, set, take, drop, Option, None, Some, refl, ap, arith, append_assoc}
+-- Edits of entries and of blocks of them, as edits of counts.
+use Rattle.std.proofs.Common.{◌≡◌, ℕ, ◌+◌, ◌<◌, Bool, true, cond, not, ◌==◌, List, [], ◌∷◌, None, refl, sym, ap, subst, arith, zero, suc, ◌-◌, ◌≤◌, false, ◌++◌, length, get_or, set, take, drop, Option, Some, append_assoc, unwrap_or, ◌↔◌, ◌∙◌}
+use Rattle.std.specs.Prelude.{sum_by, T, slice_get}
 use Rattle.std.specs.List.{AllByRecursion, insert, remove}
-use Rattle.std.specs.FinMap.Entries.{find, below_all}
+use Rattle.std.proofs.lemmas.List.Sums.{sum_by-cons}
+use Rattle.std.specs.declared.cmp.Ordering.TheVariants.{Less}
+use Rattle.std.specs.Ordering.{is_eq, eq_by_cmp}
+use Rattle.std.specs.Cmp.{alike_right, eq_by_cmp_equiv}
+use Rattle.std.specs.FinMap.Entries.{find, put, where_key, is_sorted-put, is_sorted-where_key, find-put, find-where_key, below_all}
+use Rattle.std.specs.FinMap as finite
+use Rattle.cep_base.proofs.SortedEntries.{below_rest, rest_sorted, find_below, keep_below, below_further, greater, lesser, below_one, find_at, find_gap, put_at, put_gap, remove_at}
+use Rattle.cep_term.specs.Tree.{AtomTree, IsGroundAtom, atom_of}
+use Rattle.cep_term.specs.Order.{atom_cmp}
+use Rattle.cep_term.specs.Multiset.{IsEntry, with_count, Multiset, count_of, copies_in, IsContained, IsBag}
+use Rattle.cep_term.specs.Entries.{IsRising, find_count, set_among, Block, entry_of, entries_of, later_entries, entries_in, HaveEntries, AreBefore, IsLaterFor, IsBlockFor, begins_by, IsBegunTo, IsAt, IsGapFor, AreKept}
+use Rattle.cep_term.proofs.OrderLaws.{atom_cmp_total, atom_cmp_ties}
 use Rattle.std.proofs.lemmas.Bool.{and_parts}
-use Rattle.std.specs.Prelude.{slice_get}
 use Rattle.std.specs.Option.{SomeIff}
-use Rattle.std.proofs.lemmas.List.{get_or-append-add, get_or-map, length-map, map-append, take-append-drop}
+use Rattle.std.proofs.lemmas.List.{get_or-append-add, get_or-map, length-map, map-append, take-append-drop, take_all}
 use Rattle.std.proofs.lemmas.Option.{slice_get-get_or}
 use Rattle.std.proofs.lemmas.List.Concat.{get_or-flat_map}
-use Rattle.cep_base.proofs.SortedEntries.{greater, lesser, below_one, find_below, keep_below, below_rest, below_further}
 use Rattle.cep_term.specs.declared.blocks.Blocks.{Blocks}
 use Rattle.cep_term.specs.declared.entries.Entry.{Entry}
-use Rattle.cep_term.specs.Tree.{AtomTree}
-use Rattle.cep_term.specs.Order.{atom_cmp}
-use Rattle.cep_term.specs.Multiset.{IsEntry}
-use Rattle.cep_term.specs.Entries.{Block, entry_of, entries_of, later_entries, entries_in, IsRising, find_count, set_among, HaveEntries, AreBefore, IsLaterFor, IsBlockFor, begins_by, IsBegunTo}
-use Rattle.cep_term.proofs.OrderLaws.{atom_cmp_total, atom_cmp_ties}
-use Rattle.cep_term.proofs.Edits.{Counted}
+
+-- Edits of a list of entries at an atom's place, as edits of the counts.
+
+-- an atom with its count
+abbrev pub Counted : Type 0
+Counted = AtomTree × ℕ
+
+pub true_is : {b : Bool} → b ≡ true → T b
+true_is {b} e = subst T (sym e) tt
+
+pub is_true : {b : Bool} → T b → b ≡ true
+is_true {b} t = grind arith
+
+-- the conditional on a count that is 0 or not
+pub on_count : {A : Type 0} (P : A → Type 0) (n : ℕ) (x y : A) → (n ≡ 0 → P x) → (0 < n → P y) → P (cond (n == 0) x y)
+on_count P n x y f g = grind arith
+
+-- the entries without the atom's
+abbrev pub without : AtomTree → List Counted → List Counted
+without a es = where_key atom_cmp (λ b. not (eq_by_cmp atom_cmp a b)) es
+
+rising_without : (es : List Counted) (a : AtomTree) → IsRising es → IsRising (without a es)
+rising_without es a rising = is_true (is_sorted-where_key atom_cmp (λ b. not (eq_by_cmp atom_cmp a b)) es (true_is rising))
+
+rising_put : (es : List Counted) (a : AtomTree) (n : ℕ) → IsRising es → IsRising (put atom_cmp a n es)
+rising_put es a n rising = is_true (is_sorted-put atom_cmp atom_cmp_total a n es (true_is rising))
+
+pub rising_set : (es : List Counted) (a : AtomTree) (n : ℕ) → IsRising es → IsRising (set_among es a n)
+rising_set es a n rising = on_count IsRising n (without a es) (put atom_cmp a n es) (λ e. rising_without es a rising) (λ some. rising_put es a n rising)
+
+-- each entry keeps a copy of a ground atom
+each_put : (es : List Counted) (a : AtomTree) (n : ℕ) → 0 < n → IsGroundAtom a → AllByRecursion IsEntry es → AllByRecursion IsEntry (put atom_cmp a n es)
+each_put [] a n some known all = ((some, known), tt)
+each_put (e ∷ es) a n some known all = grind (arith, each_put es a n some known)
+
+each_without : (es : List Counted) (a : AtomTree) → AllByRecursion IsEntry es → AllByRecursion IsEntry (without a es)
+each_without [] a all = tt
+each_without (e ∷ es) a all = grind (arith, each_without es a)
+
+pub each_set : (es : List Counted) (a : AtomTree) (n : ℕ) → IsGroundAtom a → AllByRecursion IsEntry es → AllByRecursion IsEntry (set_among es a n)
+each_set es a n known all = on_count (AllByRecursion IsEntry) n (without a es) (put atom_cmp a n es) (λ e. each_without es a all) (λ some. each_put es a n some known all)
+
+-- A worth of each count of an atom, of which no copies are worth nothing; and the worth of all entries. With the count itself it is the number of copies.
+module _ (worth : AtomTree → ℕ → ℕ) (nothing : (a : AtomTree) → worth a 0 ≡ 0) where
+  abbrev pub worth_of : List Counted → ℕ
+  worth_of es = sum_by (λ e. worth e.0 e.1) es
+
+  worth_of-cons : (e : Counted) (es : List Counted) → worth_of (e ∷ es) ≡ worth e.0 e.1 + worth_of es
+  worth_of-cons e es = sum_by-cons (λ (d : Counted). worth d.0 d.1) e es
+
+  -- a count that is set takes the place of the old one in the sum
+  worth_put : (es : List Counted) (a : AtomTree) (n : ℕ) → IsRising es → worth_of (put atom_cmp a n es) + worth a (find_count es a) ≡ worth_of es + worth a n
+  worth_put [] a n rising = omega (arith, worth_of-cons (a, n) [], nothing a)
+  worth_put (e ∷ es) a n rising =
+      let below = find_below atom_cmp a es in
+      let further = λ (less : atom_cmp a e.0 ≡ Less). below_further atom_cmp atom_cmp_total a e.0 es less (below_rest atom_cmp e es rising) in
+      let rest = worth_put es a n (rest_sorted atom_cmp e es rising) in
+      grind (arith, worth_of-cons, worth_of-cons (a, n) (e ∷ es), worth_of-cons (e.0, n) es, worth_of-cons e (put atom_cmp a n es), atom_cmp_ties a e.0, nothing a)
+
+  worth_without : (es : List Counted) (a : AtomTree) → IsRising es → worth_of (without a es) + worth a (find_count es a) ≡ worth_of es
+  worth_without [] a rising = omega (arith, nothing a)
+  worth_without (e ∷ es) a rising = grind (arith, below_rest atom_cmp e es rising, keep_below atom_cmp a es, rest_sorted atom_cmp e es rising, worth_of-cons, atom_cmp_ties a e.0, worth_without es a (rest_sorted atom_cmp e es rising), e.0)
+
+  pub worth_set : (es : List Counted) (a : AtomTree) (n : ℕ) → IsRising es → worth_of (set_among es a n) + worth a (find_count es a) ≡ worth_of es + worth a n
+  worth_set es a n rising = grind (arith, on_count, worth_without, worth_put)
+
+-- the copies of all entries
+abbrev pub total : List Counted → ℕ
+total es = sum_by (λ e. e.1) es
+
+pub total-cons : (e : Counted) (es : List Counted) → total (e ∷ es) ≡ e.1 + total es
+total-cons e es = sum_by-cons (λ (d : Counted). d.1) e es
+
+pub total_set : (es : List Counted) (a : AtomTree) (n : ℕ) → IsRising es → total (set_among es a n) + find_count es a ≡ total es + n
+total_set = worth_set (λ a n. n) (λ a. refl)
+
+-- what stands in the multiset of a rising list
+pub entries_rising : (es : List Counted) → IsRising es → finite.entries (finite.from_sorted {R = atom_cmp} es) ≡ es
+entries_rising es rising = finite.entries-from_sorted atom_cmp es (true_is rising)
+
+pub get_rising : (es : List Counted) (a : AtomTree) → IsRising es → finite.get (finite.from_sorted {R = atom_cmp} es) a ≡ find atom_cmp a es
+get_rising es a rising = finite.get-from_sorted atom_cmp es a (true_is rising)
+
+get_without : (es : List Counted) (a q : AtomTree) → find atom_cmp q (without a es) ≡ cond (eq_by_cmp atom_cmp q a) None (find atom_cmp q es)
+get_without es a q = grind (arith, find-where_key atom_cmp (λ b. not (eq_by_cmp atom_cmp a b)) q (λ x tie. ap (λ r. not (is_eq r)) (sym (alike_right atom_cmp_total q x a tie))) es, (eq_by_cmp_equiv atom_cmp_total).symm a q)
+
+-- to set a count among the entries is to set it in the multiset
+pub bag_set : (es : List Counted) (a : AtomTree) (n : ℕ) → IsRising es → finite.from_sorted {R = atom_cmp} (set_among es a n) ≡ with_count (finite.from_sorted es) a n
+bag_set es a n rising = finite.same_map atom_cmp_total atom_cmp_ties _ _ (λ q.
+    grind (arith, get_rising (set_among es a n) q (rising_set es a n rising), get_rising es q rising, get_without es a q, find-put atom_cmp atom_cmp_total q a n es, finite.get-remove atom_cmp_total (finite.from_sorted es) a q, finite.get-insert atom_cmp_total (finite.from_sorted es) a n q))
+
+-- Blocks of entries: what is done to the block of an atom is done to all entries.
 
 -- both parts of rising entries rise
 below_both : (k : AtomTree) (xs ys : List Counted) → below_all atom_cmp k (xs ++ ys) ≡ true → (below_all atom_cmp k xs ≡ true) × (below_all atom_cmp k ys ≡ true)
@@ -184,3 +280,130 @@ entry_here xs bs at left i b x there place lt is within here =
 
 -- for the functions that go to the block of an atom
 pub ruleset in_block = (count_in_first, count_in_later, set_in_first, set_in_later, in_range, rising_first, rising_at, each_first, each_at, entries_same)
+
+-- Edits of entries with boxes, as edits of the counts that they stand for.
+
+-- the atom of the entry at its place
+atom_at : (items : List Entry) (a : AtomTree) (i : ℕ) (d : Entry) → IsAt (entries_of items) a i → atom_of (get_or items i d).atom.value ≡ a
+atom_at [] a i d at = absurd at
+atom_at (x ∷ items) a zero d at = at
+atom_at (x ∷ items) a (suc i) d at = atom_at items a i d at.1
+
+-- what holds of each entry, at the atom's
+entry_at : (items : List Entry) (a : AtomTree) (i : ℕ) (d : Entry) → IsAt (entries_of items) a i → AllByRecursion IsEntry (entries_of items) → IsEntry (entry_of (get_or items i d))
+entry_at [] a i d at all = absurd at
+entry_at (x ∷ items) a zero d at all = all.0
+entry_at (x ∷ items) a (suc i) d at all = entry_at items a i d at.1 all.1
+
+-- the count in the entry that was read at the atom's place
+pub count_at : (items : List Entry) (a : AtomTree) (i : ℕ) (e : Entry) → IsAt (entries_of items) a i → e ≡ get_or items i e → find_count (entries_of items) a ≡ e.count
+count_at items a i e at is = ap (λ count. unwrap_or count 0) (find_at atom_cmp atom_cmp_total entry_of a items i e at) ∙ ap (λ x. x.count) (sym is)
+
+-- it is not 0
+pub count_at_some : (items : List Entry) (a : AtomTree) (i : ℕ) (e : Entry) → IsAt (entries_of items) a i → e ≡ get_or items i e → AllByRecursion IsEntry (entries_of items) → 0 < e.count
+count_at_some items a i e at is all = subst (λ x. 0 < x.count) (sym is) (entry_at items a i e at all).0
+
+-- and it is 0 at a gap
+pub count_gap : (items : List Entry) (a : AtomTree) (i : ℕ) → IsRising (entries_of items) → IsGapFor (entries_of items) a i → find_count (entries_of items) a ≡ 0
+count_gap items a i rising gap = ap (λ count. unwrap_or count 0) (find_gap atom_cmp atom_cmp_total entry_of a items i rising gap)
+
+-- a count is written over that of the entry that was read at the atom's place
+pub write_at : (items : List Entry) (a : AtomTree) (i n m : ℕ) (e : Entry) → IsAt (entries_of items) a i → e ≡ get_or items i e → 0 < n → n ≡ m → entries_of (set items i (record { atom = e.atom; count = n })) ≡ set_among (entries_of items) a m
+write_at items a i n m e at is some same = grind (arith, atom_at, put_at, atom_cmp_total, on_count, without, e.atom.value, e.atom)
+
+-- an entry is written into the atom's gap
+pub write_gap : (items : List Entry) (a : AtomTree) (i n m : ℕ) (x : Entry) → IsGapFor (entries_of items) a i → entry_of x ≡ (a, n) → 0 < n → n ≡ m → entries_of (insert items i x) ≡ set_among (entries_of items) a m
+write_gap items a i n m x gap is some same = grind (arith, put_gap, atom_cmp_total, on_count, without)
+
+-- the entry at the atom's place is removed
+pub drop_at : (items : List Entry) (a : AtomTree) (i m : ℕ) → IsRising (entries_of items) → IsAt (entries_of items) a i → m ≡ 0 → entries_of (remove items i) ≡ set_among (entries_of items) a m
+drop_at items a i m rising at none = grind (arith, remove_at, atom_cmp_total, on_count, without)
+
+-- an entry that was read at the atom's place says that a copy is there
+pub not_missing : (items : List Entry) (a : AtomTree) (i : ℕ) (e : Entry) → IsAt (entries_of items) a i → e ≡ get_or items i e → AllByRecursion IsEntry (entries_of items) → (false ≡ true) ↔ (find_count (entries_of items) a ≡ 0)
+not_missing items a i e at is all = grind (arith, count_at_some, count_at)
+
+-- for the functions that edit entries: what the entry at a place says of the count, and what an edit there makes
+pub ruleset one_more = (count_at, count_gap, write_at, write_gap)
+
+pub ruleset copies = (count_at, count_at_some, count_gap, write_at, drop_at, not_missing)
+
+-- What the entries of a bag say of the multiset that they stand for.
+
+module _ (es : List Counted) (bag : Multiset) (rising : IsRising es) (seen : finite.from_sorted es ≡ bag) where
+  pub entries_seen : finite.entries bag ≡ es
+  entries_seen = ap (λ z. finite.entries z) (sym seen) ∙ entries_rising es rising
+
+  pub count_seen : (a : AtomTree) → find_count es a ≡ count_of bag a
+  count_seen a = ap (λ o. unwrap_or o 0) (sym (get_rising es a rising)) ∙ ap (λ z. count_of z a) seen
+
+  pub copies_seen : total es ≡ copies_in bag
+  copies_seen = ap total (sym entries_seen)
+
+  pub kept_seen : AllByRecursion IsEntry es → IsBag bag
+  kept_seen each = subst (AllByRecursion IsEntry) (sym entries_seen) each
+
+  pub len_seen : length es ≡ finite.len bag
+  len_seen = ap length (sym entries_seen) ∙ sym (finite.len-entries bag)
+
+  -- an edit of the entries, seen as one of the multiset
+  pub set_seen : (a : AtomTree) (n m : ℕ) (edited : List Counted) → edited ≡ set_among es a n → n ≡ m → finite.from_sorted edited ≡ with_count bag a m
+  set_seen a n m edited is same = ap (λ z. finite.from_sorted z) is ∙ bag_set es a n rising ∙ ap (λ z. with_count z a n) seen ∙ ap (with_count bag a) same
+
+-- what always holds of the entries holds after an edit, where the copies are counted along
+pub kept_set : (es edited : List Counted) (a : AtomTree) (n copies new : ℕ) → AreKept es copies → IsGroundAtom a → edited ≡ set_among es a n → new + find_count es a ≡ copies + n → AreKept edited new
+kept_set es edited a n copies new kept known is sum = grind (arith, rising_set, each_set, total_set, total, kept.rising, kept.each, kept.counted)
+
+abbrev pub no_entries : List Counted
+no_entries = []
+
+-- the multiset of no entries
+pub empty_seen : finite.from_sorted {R = atom_cmp} no_entries ≡ finite.empty
+empty_seen = finite.empty_of_len (finite.from_sorted no_entries) (finite.len-entries (finite.from_sorted no_entries) ∙ ap length (entries_rising no_entries refl))
+
+-- an atom that is there is ground
+pub ground_there : (es : List Counted) (a : AtomTree) → AllByRecursion IsEntry es → ¬ (find_count es a ≡ 0) → IsGroundAtom a
+ground_there [] a all there = absurd (there refl)
+ground_there (e ∷ es) a all there = grind (arith, ground_there es a all.1, atom_cmp_ties a e.0)
+
+-- the counts of a list are at most others where each entry's is
+counts_from_entries : (others : List Counted) (count : AtomTree → ℕ) (a : AtomTree) → AllByRecursion (λ e. e.1 ≤ count e.0) others → find_count others a ≤ count a
+counts_from_entries [] count a all = omega arith
+counts_from_entries (e ∷ others) count a all = grind (arith, counts_from_entries others count a, atom_cmp_ties a e.0)
+
+-- so one bag is contained in another if no entry of it has a greater count
+pub contained_all : (bag other : Multiset) (n : ℕ) → finite.len other ≤ n → AllByRecursion (λ e. e.1 ≤ count_of bag e.0) (take n (finite.entries other)) → IsContained other bag
+contained_all bag other n most all a =
+    let whole = take_all n (finite.entries other) (subst (λ m. m ≤ n) (finite.len-entries other) most) in
+    rw (finite.get-entries other a) (counts_from_entries (finite.entries other) (count_of bag) a (rw whole at all))
+
+-- where a copy was not missing, there is one
+some_copy_there : (n : ℕ) → (false ≡ true) ↔ (n ≡ 0) → 0 < n
+some_copy_there n is = grind arith
+
+-- no count is above the sum of them all
+pub count_le_total : (es : List Counted) (a : AtomTree) → find_count es a ≤ total es
+count_le_total [] a = omega arith
+count_le_total (e ∷ es) a = grind (arith, total-cons e es, count_le_total es a)
+
+-- there are at least as many copies as entries
+pub few_entries : (es : List Counted) (copies : ℕ) → AreKept es copies → length es ≤ copies
+few_entries es copies kept = omega (arith, at_most es kept.each, kept.counted)
+  where
+    at_most : (es : List Counted) → AllByRecursion IsEntry es → length es ≤ total es
+    at_most [] each = omega arith
+    at_most (e ∷ es) each = omega (arith, at_most es each.1, each.0.0, total-cons e es)
+
+-- and none exactly in the empty multiset
+pub none_seen : (es : List Counted) (bag : Multiset) (copies : ℕ) → AreKept es copies → finite.from_sorted es ≡ bag → ((copies == 0) ≡ true) ↔ (bag ≡ finite.empty)
+none_seen es bag copies kept seen = grind (arith, finite.empty_of_len bag, few_entries es copies kept, len_seen es bag kept.rising seen, copies_seen es bag kept.rising seen, entries_rising no_entries, empty_seen, kept.counted)
+
+pub some_copy : (es : List Counted) (a : AtomTree) (copies : ℕ) → AreKept es copies → (false ≡ true) ↔ (find_count es a ≡ 0) → 1 ≤ copies
+some_copy es a copies kept is = omega (arith, some_copy_there (find_count es a) is, count_le_total es a, kept.counted)
+
+-- what always holds of the entries holds after one copy is taken
+pub kept_taken : (es edited : List Counted) (a : AtomTree) (copies : ℕ) → AreKept es copies → (false ≡ true) ↔ (find_count es a ≡ 0) → edited ≡ set_among es a (find_count es a - 1) → AreKept edited (copies - 1)
+kept_taken es edited a copies kept is e = grind (arith, some_copy_there (find_count es a) is, count_le_total es a, kept_set es edited a (find_count es a - 1) copies (copies - 1), ground_there es a kept.each, kept.counted)
+
+-- for the functions that ask the entries of a bag
+pub ruleset seen = (entries_seen, count_seen, copies_seen, kept_seen, len_seen, set_seen, few_entries, none_seen, some_copy)

@@ -1,14 +1,4 @@
 pub mod OrderLaws
-pub mod ValuesLaws
-pub mod MatchingSteps
-pub mod MatchingLaws
-pub mod Edits
-pub mod EntryEdits
 pub mod BlockEdits
-pub mod Seen
+pub mod MatchingLaws
 pub mod Multisets
-pub mod Additions
-pub mod Gathered
-pub mod EntryPlaces
-pub mod Instances
-pub mod Once

@@ -62,7 +62,7 @@ impl Bag {
     }
 
     /// The multiset of a list of ground atoms. Only out of memory is refused.
-    #[tactic(auto, using(crate::proofs::Additions::added))]
+    #[tactic(auto, using(crate::proofs::Multisets::added))]
     pub fn of(alloc: Global, atoms: AtomList) -> Result<Bag, AllocError>
         requires known { AllByRecursion IsGroundAtom atoms }
         requires few { length atoms < 2 ^ 32 }
@@ -77,7 +77,7 @@ impl Bag {
     }
 
     /// How many copies of the atom there are: 0 if it is not there. It takes no memory.
-    #[tactic(auto, using(crate::proofs::Seen::seen))]
+    #[tactic(auto, using(crate::proofs::BlockEdits::seen))]
     pub fn count(&self, a: &Atom) -> u32
         ensures { result ≡ count_of self.now (atom_of a.now) }
     {
@@ -85,7 +85,7 @@ impl Bag {
     }
 
     /// Adds one copy of a ground atom. After out of memory the bag is as before.
-    #[tactic(auto, using(crate::proofs::Seen::seen))]
+    #[tactic(auto, using(crate::proofs::BlockEdits::seen))]
     pub fn add(&mut self, a: &Atom) -> Result<(), AllocError>
         requires known { IsGroundAtom (atom_of a.now) }
         requires few { count_of self.old (atom_of a.now) < 2 ^ 32 - 1 }
@@ -99,7 +99,7 @@ impl Bag {
     }
 
     // Adds one copy of a ground atom, which is kept where it is new.
-    #[tactic(auto, using(crate::proofs::Seen::seen))]
+    #[tactic(auto, using(crate::proofs::BlockEdits::seen))]
     fn put(&mut self, a: Atom) -> Result<(), AllocError>
         requires known { IsGroundAtom (atom_of a) }
         requires few { count_of self.old (atom_of a) < 2 ^ 32 - 1 }
@@ -114,7 +114,7 @@ impl Bag {
 
     /// Adds a list of ground atoms, one after another. After out of memory a prefix of the list is
     /// added.
-    #[tactic(auto, using(crate::proofs::Additions::added))]
+    #[tactic(auto, using(crate::proofs::Multisets::added))]
     pub fn add_all(&mut self, atoms: &AtomList) -> Result<(), AllocError>
         requires known { AllByRecursion IsGroundAtom atoms.now }
         requires few { copies_in self.old + length atoms.now < 2 ^ 32 }
@@ -130,7 +130,7 @@ impl Bag {
 
     /// Takes one copy of the atom. `Missing` comes if and only if there is none, and then nothing
     /// changes. It takes no memory.
-    #[tactic(auto, using(crate::proofs::Seen::seen))]
+    #[tactic(auto, using(crate::proofs::BlockEdits::seen))]
     pub fn take(&mut self, a: &Atom) -> Result<(), Missing>
         ensures missing { IsErr result ↔ (count_of self.old (atom_of a.now) ≡ 0) }
         ensures ok { OnOk result (self.new ≡ without_one self.old (atom_of a.now)) }
@@ -146,7 +146,7 @@ impl Bag {
     }
 
     /// Takes the copies that the other bag has, as far as they are there. It takes no memory.
-    #[tactic(auto, using(crate::proofs::Additions::taken))]
+    #[tactic(auto, using(crate::proofs::Multisets::taken))]
     pub fn take_all(&mut self, other: &Bag)
         ensures { self.new ≡ difference_of self.old other.now }
     {
@@ -158,7 +158,7 @@ impl Bag {
     }
 
     // Takes so many copies of the atom, or all if there are fewer.
-    #[tactic(auto, using(crate::proofs::Additions::taken))]
+    #[tactic(auto, using(crate::proofs::Multisets::taken))]
     fn take_copies(&mut self, atom: &Atom, copies: u32)
         requires known { IsGroundAtom (atom_of atom.now) }
         requires kept { IsBag self.old }
@@ -171,7 +171,7 @@ impl Bag {
     }
 
     // Each atom of a bag is ground and has a copy. It computes nothing.
-    #[tactic(auto, using(crate::proofs::Seen::seen))]
+    #[tactic(auto, using(crate::proofs::BlockEdits::seen))]
     fn each_is_kept(&self)
         ensures { IsBag self.now }
     {
@@ -192,7 +192,7 @@ impl Bag {
     }
 
     /// The number of copies of all atoms. It takes no memory.
-    #[tactic(auto, using(crate::proofs::Seen::seen))]
+    #[tactic(auto, using(crate::proofs::BlockEdits::seen))]
     pub fn copies(&self) -> u64
         ensures value { result ≡ copies_in self.now }
         ensures kept { IsBag self.now }
@@ -212,7 +212,7 @@ impl Bag {
     }
 
     /// The number of distinct atoms.
-    #[tactic(auto, using(crate::proofs::Seen::seen))]
+    #[tactic(auto, using(crate::proofs::BlockEdits::seen))]
     pub fn len(&self) -> usize
         ensures value { result ≡ finite.len self.now }
         ensures kept { IsBag self.now }
@@ -223,7 +223,7 @@ impl Bag {
     }
 
     /// Whether there is no atom.
-    #[tactic(auto, using(crate::proofs::Seen::seen))]
+    #[tactic(auto, using(crate::proofs::BlockEdits::seen))]
     pub fn is_empty(&self) -> bool
         ensures { IsTrue result ↔ (self.now ≡ finite.empty) }
     {
@@ -231,7 +231,7 @@ impl Bag {
     }
 
     /// The i-th atom in the order of atoms, counted from 0, with the number of its copies.
-    #[tactic(auto, using(crate::proofs::Seen::seen))]
+    #[tactic(auto, using(crate::proofs::BlockEdits::seen))]
     pub fn entry(&self, i: usize) -> (&Atom, u32)
         requires { i < finite.len self.now }
         ensures { slice_get (finite.entries self.now) i ≡ Some (atom_of result.0.now, result.1) }

@@ -52,7 +52,7 @@ fn goes_last(entries: &[Entry], a: &Atom) -> bool
 }
 
 // How many copies of the atom there are.
-#[tactic(auto, using(crate::proofs::EntryEdits::one_more))]
+#[tactic(auto, using(crate::proofs::BlockEdits::one_more))]
 pub fn count_among(entries: &[Entry], a: &Atom) -> u32
     requires { IsRising (entries_of entries.now) }
     ensures { result ≡ find_count (entries_of entries.now) (atom_of a.now) }
@@ -64,7 +64,7 @@ pub fn count_among(entries: &[Entry], a: &Atom) -> u32
 }
 
 // Adds one copy of the atom.
-#[tactic(auto, using(crate::proofs::EntryEdits::one_more))]
+#[tactic(auto, using(crate::proofs::BlockEdits::one_more))]
 pub fn add_copy(alloc: Global, entries: &mut Vec<Entry>, a: &Atom) -> Result<(), AllocError>
     requires rising { IsRising (entries_of entries.old.items) }
     requires few { find_count (entries_of entries.old.items) (atom_of a.now) < 2 ^ 32 - 1 }
@@ -87,7 +87,7 @@ pub fn add_copy(alloc: Global, entries: &mut Vec<Entry>, a: &Atom) -> Result<(),
 }
 
 // Adds one copy of the atom, which is kept where it is new.
-#[tactic(auto, using(crate::proofs::EntryEdits::one_more))]
+#[tactic(auto, using(crate::proofs::BlockEdits::one_more))]
 pub fn put_copy(alloc: Global, entries: &mut Vec<Entry>, a: Atom) -> Result<(), AllocError>
     requires rising { IsRising (entries_of entries.old.items) }
     requires few { find_count (entries_of entries.old.items) (atom_of a) < 2 ^ 32 - 1 }
@@ -110,7 +110,7 @@ pub fn put_copy(alloc: Global, entries: &mut Vec<Entry>, a: Atom) -> Result<(), 
 }
 
 // Takes one copy of the atom, or answers `Missing` if there is none.
-#[tactic(auto, using(crate::proofs::EntryEdits::copies))]
+#[tactic(auto, using(crate::proofs::BlockEdits::copies))]
 pub fn take_copy(entries: &mut Vec<Entry>, a: &Atom) -> Result<(), Missing>
     requires rising { IsRising (entries_of entries.old.items) }
     requires each { AllByRecursion IsEntry (entries_of entries.old.items) }

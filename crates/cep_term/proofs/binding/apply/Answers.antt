@@ -1,5 +1,5 @@
 use Rattle.cep_term.specs.Tree.{trees_of}
-use Rattle.cep_term.proofs.ValuesLaws.{instances_ground}
+use Rattle.cep_term.proofs.MatchingLaws.{instances_ground}
 use Rattle.cep_term.proofs.binding.apply.Goals as goal
 
 pub returns-clause-known : goal.returns-clause-known

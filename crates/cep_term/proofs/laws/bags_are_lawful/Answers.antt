@@ -1,8 +1,5 @@
 use Rattle.cep_term.proofs.OrderLaws.{atom_cmp_total, atom_cmp_ties}
-use Rattle.cep_term.proofs.Multisets.{count_empty, copies_empty, nodes_empty, bag_empty, count_set_own, count_set_other, copies_set_count, nodes_set_count, bag_set_count, same_counts, count_le_copies, count_sum, copies_sum, nodes_sum, bag_sum, sum_commutes, sum_groups, count_difference, bag_difference, sum_of_difference, difference_of_sum, bag_gathered, gathered-append, sum_with_one}
-use Rattle.cep_term.proofs.Gathered.{gathered_copies, gathered_nodes, gathered_there}
-use Rattle.cep_term.proofs.EntryPlaces.{earlier_is_less, entry_counted, entry_there}
-use Rattle.cep_term.proofs.Once.{count_joined, count_once, bag_once, copies_once, same_once, gains_all, ground_gained, count_others, count_single, once_gathered, gained_alike, gained_among, gained_few}
+use Rattle.cep_term.proofs.Multisets.{count_empty, copies_empty, nodes_empty, bag_empty, count_set_own, count_set_other, copies_set_count, nodes_set_count, bag_set_count, same_counts, count_le_copies, count_sum, copies_sum, nodes_sum, bag_sum, sum_commutes, sum_groups, count_difference, bag_difference, sum_of_difference, difference_of_sum, bag_gathered, gathered-append, sum_with_one, gathered_copies, gathered_nodes, gathered_there, earlier_is_less, entry_counted, entry_there, count_joined, count_once, bag_once, copies_once, same_once, gains_all, ground_gained, count_others, count_single, once_gathered, gained_alike, gained_among, gained_few}
 use Rattle.cep_term.proofs.laws.bags_are_lawful.Goals as goal
 
 pub returns : goal.returns

@@ -1,4 +1,4 @@
-use Rattle.cep_term.proofs.Instances.{ground_instance_in, instance_in_twice, instance_in_extended, instance_in_alike, instance_in_ground}
+use Rattle.cep_term.proofs.MatchingLaws.{ground_instance_in, instance_in_twice, instance_in_extended, instance_in_alike, instance_in_ground}
 use Rattle.cep_term.proofs.laws.instances_of_instances.Goals as goal
 
 pub returns : goal.returns

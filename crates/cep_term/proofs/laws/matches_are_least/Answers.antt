@@ -1,4 +1,4 @@
-use Rattle.cep_term.proofs.Instances.{one_of_meets, least_of_meets}
+use Rattle.cep_term.proofs.MatchingLaws.{one_of_meets, least_of_meets}
 use Rattle.cep_term.proofs.laws.matches_are_least.Goals as goal
 
 pub returns : goal.returns

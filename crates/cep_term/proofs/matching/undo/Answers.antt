@@ -2,7 +2,7 @@ use Rattle.std.proofs.Common.{◌∙◌, ap, arith}
 use Rattle.std.proofs.lemmas.Grind.{elements}
 use Rattle.cep_term.specs.Values.{values_of}
 use Rattle.cep_term.specs.Undoing.{undone}
-use Rattle.cep_term.proofs.MatchingSteps.{undone_pop}
+use Rattle.cep_term.proofs.MatchingLaws.{undone_pop}
 use Rattle.cep_term.proofs.matching.undo.Goals as goal
 
 pub loop-v-preserved : goal.loop-v-preserved

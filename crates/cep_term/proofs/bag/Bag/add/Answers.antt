@@ -1,6 +1,6 @@
 use Rattle.std.proofs.Common.{arith}
 use Rattle.cep_term.specs.Tree.{atom_of}
-use Rattle.cep_term.proofs.Seen.{kept_set}
+use Rattle.cep_term.proofs.BlockEdits.{kept_set}
 use Rattle.cep_term.proofs.bag.Bag.add.Goals as goal
 
 pub invariant_of-self-2 : goal.invariant_of-self-2

@@ -1,8 +1,7 @@
 use Rattle.std.proofs.Common.{arith}
 use Rattle.cep_base.proofs.Lists.{holds_at}
 use Rattle.cep_term.specs.Tree.{IsGroundAtom, atom_of}
-use Rattle.cep_term.proofs.Multisets.{copies_with_one}
-use Rattle.cep_term.proofs.Additions.{sum_more, bag_with_one}
+use Rattle.cep_term.proofs.Multisets.{copies_with_one, sum_more, bag_with_one}
 use Rattle.cep_term.proofs.bag.Bag.add_all.Goals as goal
 
 pub loop-i-preserved : goal.loop-i-preserved

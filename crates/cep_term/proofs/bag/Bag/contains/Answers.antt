@@ -1,7 +1,7 @@
 use Rattle.std.proofs.Common.{refl, arith}
 use Rattle.cep_term.specs.Tree.{atom_of}
-use Rattle.cep_term.proofs.Seen.{contained_all}
-use Rattle.cep_term.proofs.EntryPlaces.{entry_counted}
+use Rattle.cep_term.proofs.BlockEdits.{contained_all}
+use Rattle.cep_term.proofs.Multisets.{entry_counted}
 use Rattle.cep_term.proofs.bag.Bag.contains.Goals as goal
 
 pub returns-then-count-copies : goal.returns-then-count-copies

@@ -1,5 +1,5 @@
 use Rattle.std.proofs.Common.{arith}
-use Rattle.cep_term.proofs.Seen.{copies_seen, few_entries}
+use Rattle.cep_term.proofs.BlockEdits.{copies_seen, few_entries}
 use Rattle.cep_term.proofs.bag.Bag.len.Goals as goal
 
 pub len-requires : goal.len-requires

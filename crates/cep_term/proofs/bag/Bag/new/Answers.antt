@@ -1,7 +1,6 @@
 use Rattle.std.proofs.Common.{List, ◌∙◌, ap}
 use Rattle.std.specs.FinMap as finite
-use Rattle.cep_term.proofs.Edits.{Counted}
-use Rattle.cep_term.proofs.Seen.{empty_seen}
+use Rattle.cep_term.proofs.BlockEdits.{Counted, empty_seen}
 use Rattle.cep_term.proofs.bag.Bag.new.Goals as goal
 
 pub returns : goal.returns

@@ -2,8 +2,7 @@ use Rattle.std.proofs.Common.{◌∙◌, sym, ap, arith, map}
 use Rattle.std.proofs.lemmas.List.{length-map}
 use Rattle.cep_term.specs.Tree.{atom_of}
 use Rattle.cep_term.specs.Multiset.{Multiset, gathered, sum_of}
-use Rattle.cep_term.proofs.Multisets.{copies_empty, count_le_copies, copies_with_one, bag_gathered}
-use Rattle.cep_term.proofs.Additions.{sum_alone, sum_onward, sum_ended, bag_with_one}
+use Rattle.cep_term.proofs.Multisets.{copies_empty, count_le_copies, copies_with_one, bag_gathered, sum_alone, sum_onward, sum_ended, bag_with_one}
 use Rattle.cep_term.proofs.bag.Bag.of.Goals as goal
 
 pub loop-atom-init : goal.loop-atom-init

@@ -1,5 +1,5 @@
 use Rattle.cep_term.specs.Tree.{atom_of}
-use Rattle.cep_term.proofs.Seen.{kept_taken}
+use Rattle.cep_term.proofs.BlockEdits.{kept_taken}
 use Rattle.cep_term.proofs.bag.Bag.take.Goals as goal
 
 pub invariant_of-self : goal.invariant_of-self

@@ -1,7 +1,7 @@
 use Rattle.std.proofs.Common.{◌∙◌, sym, ap}
 use Rattle.cep_term.specs.Tree.{atom_of}
 use Rattle.cep_term.specs.Multiset.{Multiset}
-use Rattle.cep_term.proofs.Additions.{without_entry, taken_next, ground_entry, kept_along}
+use Rattle.cep_term.proofs.Multisets.{without_entry, taken_next, ground_entry, kept_along}
 use Rattle.cep_term.proofs.bag.Bag.take_all.Goals as goal
 
 pub loop-i-preserved : goal.loop-i-preserved

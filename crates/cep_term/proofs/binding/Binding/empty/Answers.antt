@@ -1,8 +1,7 @@
-use Rattle.std.proofs.Common.{arith}
+use Rattle.std.proofs.Common.{arith, ◌≡◌, ap, ◌∙◌, None}
 use Rattle.std.proofs.lemmas.Grind.{common_steps}
-use Rattle.std.proofs.Common.{◌≡◌, ap, ◌∙◌, None}
 use Rattle.cep_term.specs.Values.{value_of, values_of}
-use Rattle.cep_term.proofs.ValuesLaws.{value_of-replicate}
+use Rattle.cep_term.proofs.MatchingLaws.{value_of-replicate}
 use Rattle.cep_term.proofs.binding.Binding.empty.Goals as goal
 
 pub invariant_of-result : goal.invariant_of-result

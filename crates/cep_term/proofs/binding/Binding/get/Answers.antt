@@ -1,5 +1,5 @@
 use Rattle.std.proofs.Common.{◌<◌, length, subst, sym}
-use Rattle.cep_term.proofs.ValuesLaws.{ground_got}
+use Rattle.cep_term.proofs.MatchingLaws.{ground_got}
 use Rattle.cep_term.proofs.binding.Binding.get.Goals as goal
 
 pub returns-clause-known : goal.returns-clause-known

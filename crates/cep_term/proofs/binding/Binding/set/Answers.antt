@@ -1,7 +1,7 @@
 use Rattle.std.proofs.Common.{◌<◌, length, subst, sym, ap, ◌∙◌, Some}
 use Rattle.cep_term.specs.Tree.{tree_of}
 use Rattle.std.specs.List.{slice_set}
-use Rattle.cep_term.proofs.ValuesLaws.{values_of-set, ground-set}
+use Rattle.cep_term.proofs.MatchingLaws.{values_of-set, ground-set}
 use Rattle.cep_term.proofs.binding.Binding.set.Goals as goal
 
 pub invariant_of-self : goal.invariant_of-self
