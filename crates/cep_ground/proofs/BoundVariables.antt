@@ -2,7 +2,7 @@
 use Rattle.std.proofs.Common.{◌≡◌, inl, inr, ⊎_elim, ℕ, zero, suc, ◌+◌, ◌<◌, Bool, true, false, not, List, [], ◌∷◌, ◌++◌, length, map, filter, refl, sym, ap, subst, ◌∙◌, arith, append_assoc, Contains}
 use Rattle.std.proofs.lemmas.List.{length-map}
 use Rattle.std.proofs.lemmas.Grind.{flat_map-append}
-use Rattle.std.specs.Prelude.{slice_get, codes, decimal}
+use Rattle.std.specs.Prelude.{slice_get}
 use Rattle.std.specs.Str.{bytes_eq}
 use Rattle.std.specs.List.{list_any}
 use Rattle.cep_parse.specs.declared.raw.Span.{Span}
@@ -16,7 +16,7 @@ use Rattle.cep_term.specs.Tree.{AtomTree, OccursIn}
 use Rattle.cep_rule.specs.declared.rule.Rule.{Rule}
 use Rattle.cep_rule.specs.Patterns.{PremiseTree, ClauseTree}
 use Rattle.cep_rule.specs.Binding.{OccursInSome, IsBoundRule, IsBoundClause}
-use Rattle.cep_source.specs.Items.{Source, RuleItem, ClauseItem, said}
+use Rattle.cep_source.specs.Items.{Source, RuleItem, ClauseItem}
 use Rattle.cep_parse.specs.Raw.{atoms_of, raw_nodes}
 use Rattle.cep_source.specs.Variables.{Occurrence, occurrence_at, blanks_behind, occurrences_from, occurrences_of, firsts_beside, variables_of, blanks_after}
 use Rattle.cep_types.specs.Sites.{rule_scope, clause_scope}
@@ -38,9 +38,7 @@ occurrences_both source blanks (node ∷ one) other = grind (arith, append_assoc
 
 -- an occurrence among nodes is the head of one of them
 occurs_at : (source : Source) (vars : List (List ℕ)) (blanks : ℕ) (shape : RawKind) (at : Span) (args : ℕ) (o : Occurrence) → Contains (occurrence_at source blanks at shape) o → var (variable_of vars o.name) ≡ head_at source vars blanks shape at args
-occurs_at source vars blanks kind.App at args o there = absurd (contains_none o there)
-occurs_at source vars blanks kind.Var at args o there = ⊎_elim (λ (same : record { name = said source at; at = at } ≡ o). ap (λ (p : Occurrence). var (variable_of vars p.name)) (sym same)) (λ later. absurd (contains_none o later)) (contains_cases (record { name = said source at; at = at }) [] o there)
-occurs_at source vars blanks kind.Blank at args o there = ⊎_elim (λ (same : record { name = codes "_" ++ decimal (blanks + 1); at = at } ≡ o). ap (λ (p : Occurrence). var (variable_of vars p.name)) (sym same)) (λ later. absurd (contains_none o later)) (contains_cases (record { name = codes "_" ++ decimal (blanks + 1); at = at }) [] o there)
+occurs_at source vars blanks shape at args o there = grind (arith, contains_none, contains_cases)
 
 occurs_in_nodes : (source : Source) (vars : List (List ℕ)) (blanks : ℕ) (nodes : List RawNode) (o : Occurrence) → Contains (occurrences_from source blanks nodes) o → Contains (heads_from source vars blanks nodes) (var (variable_of vars o.name))
 occurs_in_nodes source vars blanks [] o there = absurd (contains_none o there)
@@ -57,14 +55,12 @@ occurs_in_atom source vars blanks raw atom o by there = grind (arith, terms_occu
 
 -- an occurrence among the atoms of a list is in one of them
 in_atoms : (source : Source) (vars : List (List ℕ)) (blanks : ℕ) (raws : List RawAtom) (list : List AtomTree) (o : Occurrence) → AreAtomsBy source vars blanks raws list → Contains (occurrences_from source blanks (raw_nodes raws)) o → OccursInSome (variable_of vars o.name) list
-in_atoms source vars blanks [] [] o by there = absurd (contains_none o there)
-in_atoms source vars blanks [] (atom ∷ list) o by there = absurd by
-in_atoms source vars blanks (raw ∷ raws) [] o by there = absurd by
 in_atoms source vars blanks (raw ∷ raws) (atom ∷ list) o by there =
     ⊎_elim
     (λ here. inl (occurs_in_atom source vars blanks raw atom o by.0 here))
     (λ later. inr (in_atoms source vars (blanks_after blanks raw.nodes) raws list o by.1 later))
     (contains_either (occurrences_from source blanks raw.nodes) _ o (subst (λ os. Contains os o) (occurrences_both source blanks raw.nodes (raw_nodes raws)) there))
+in_atoms source vars blanks raws list o by there = grind (arith, contains_none)
 
 -- the premise in which it occurs
 pub record OccursInPremise (v : ℕ) (list : List PremiseTree) : Type 0 where
@@ -73,16 +69,14 @@ pub record OccursInPremise (v : ℕ) (list : List PremiseTree) : Type 0 where
   pub occurs : OccursIn v premise.atom
 
 in_premises : (source : Source) (vars : List (List ℕ)) (blanks : ℕ) (elems : List RawElem) (list : List PremiseTree) (o : Occurrence) → ArePremisesBy source vars blanks elems list → Contains (occurrences_from source blanks (raw_nodes (atoms_of elems))) o → OccursInPremise (variable_of vars o.name) list
-in_premises source vars blanks [] [] o by there = absurd (contains_none o there)
-in_premises source vars blanks [] (p ∷ list) o by there = absurd by
 in_premises source vars blanks (elem.Qui span ∷ elems) list o by there = in_premises source vars blanks elems list o by there
 in_premises source vars blanks (elem.Stage span ∷ elems) list o by there = in_premises source vars blanks elems list o by there
-in_premises source vars blanks (elem.Atom kept raw ∷ elems) [] o by there = absurd by
 in_premises source vars blanks (elem.Atom kept raw ∷ elems) (p ∷ list) o by there =
     ⊎_elim
     (λ here. record { premise = p; there = contains_first p list; occurs = occurs_in_atom source vars blanks raw p.atom o by.1 here })
     (λ later. let is = in_premises source vars (blanks_after blanks raw.nodes) elems list o by.2 later in record { premise = is.premise; there = contains_behind p list is.premise is.there; occurs = is.occurs })
     (contains_either (occurrences_from source blanks raw.nodes) _ o (subst (λ os. Contains os o) (occurrences_both source blanks raw.nodes (raw_nodes (atoms_of elems))) there))
+in_premises source vars blanks elems list o by there = grind (arith, contains_none)
 
 -- an atom of a list
 occurs_in_list : (v : ℕ) (list : List AtomTree) (atom : AtomTree) → Contains list atom → OccursIn v atom → OccursInSome v list
@@ -108,8 +102,7 @@ none_pass p xs x none there = by_test (p x) refl
     by_test false e = refl
 
 not_false : (b : Bool) → not b ≡ false → b ≡ true
-not_false true e = refl
-not_false false e = absurd cc
+not_false b e = grind arith
 
 module _ (source : Source) where
   -- a rule with nothing unbound has the variables of its left side
@@ -117,11 +110,10 @@ module _ (source : Source) where
   bound_vars item bound =
       let left = atoms_of item.raw.left in
       let right = atoms_of item.raw.right in
-      let left_occurrences = occurrences_from source 0 (raw_nodes left) in
       let right_occurrences = occurrences_from source (blanks_after 0 (raw_nodes left)) (raw_nodes right) in
       ap (λ ns. firsts_beside [] (occurrences_from source 0 ns)) (flat_map-append (λ (atom : RawAtom). atom.nodes) left right)
       ∙ ap (firsts_beside []) (occurrences_both source 0 (raw_nodes left) (raw_nodes right))
-      ∙ firsts_append [] left_occurrences right_occurrences
+      ∙ firsts_append [] (occurrences_from source 0 (raw_nodes left)) right_occurrences
       (λ o there.
       let left_out = none_pass (λ (o : Occurrence). not (list_any (λ name. bytes_eq name o.name) (names_of source left))) right_occurrences o bound there in
       inr (any_is (names_of source left) o.name (not_false (list_any (λ name. bytes_eq name o.name) (names_of source left)) left_out)))

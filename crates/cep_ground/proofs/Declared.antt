@@ -87,9 +87,8 @@ module _ (source : Source) (vars : List (List ℕ)) where
 
   build : (terms : ℕ) (nodes : List RawNode) (blanks : ℕ) → Fill terms nodes → AreBuilt terms (heads_from source vars blanks nodes)
   build zero [] blanks fill = record { trees = none; count = refl; heads_are = refl }
-  build zero (first ∷ nodes) blanks fill = absurd fill
-  build (suc terms) [] blanks fill = absurd fill
   build (suc terms) (first ∷ nodes) blanks fill = grind (arith, build_node, first.kind, first.at, first.args, fill.0, build (first.args + terms) nodes (blanks_behind blanks first.kind) fill.1, fill.1)
+  build terms nodes blanks fill = absurd fill
 
   -- the atom that is written
   record HasAtom (blanks : ℕ) (raw : RawAtom) : Type 0 where
@@ -163,14 +162,11 @@ module _ (source : Source) (clean : IsClean source) (made : AtomsMade source) (s
 
   has_rules : (names : List (List ℕ)) (items : List RuleItem) → length names ≡ length items → ((item : RuleItem) → Contains items item → Contains (rules_of source) item) → HasRules names items
   has_rules [] [] size among = record { rules = []; names_are = refl; by = tt }
-  has_rules (name ∷ names) [] size among = absurd (omega (arith, size))
-  has_rules [] (item ∷ items) size among = absurd (omega (arith, size))
   has_rules (name ∷ names) (item ∷ items) size among =
       let here = has_rule name item (among item (contains_first item items)) in
       let rest = has_rules names items (omega (arith, size)) (λ other there. among other (contains_behind item items other there)) in
-      let one = here.name_is in
-      let others = rest.names_are in
       record { rules = here.rule ∷ rest.rules; names_are = cc; by = (here.by, rest.by) }
+  has_rules names items size among = absurd (omega (arith, size))
 
   record HasClauses (items : List ClauseItem) : Type 0 where
     clauses : List ClauseTree

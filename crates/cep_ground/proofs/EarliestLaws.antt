@@ -1,5 +1,5 @@
 -- The earlier of two earliest places is the earliest of both.
-use Rattle.std.proofs.Common.{◌≡◌, inl, inr, ⊎_elim, ℕ, zero, suc, ◌+◌, ◌<◌, List, [], ◌∷◌, ◌++◌, take, refl, sym, ap, subst, ◌∙◌, arith}
+use Rattle.std.proofs.Common.{◌≡◌, ⊎_elim, ℕ, suc, ◌+◌, ◌<◌, List, [], ◌∷◌, ◌++◌, take, sym, ap, subst, ◌∙◌, arith}
 use Rattle.std.proofs.lemmas.List.{append-nil}
 use Rattle.std.proofs.lemmas.Grind.{flat_map-append}
 use Rattle.std.specs.Prelude.{Option, Some, slice_get}
@@ -8,6 +8,7 @@ use Rattle.cep_base.specs.declared.place.Pos.{Pos}
 use Rattle.cep_ground.specs.Refusals.{StandsBefore}
 use Rattle.cep_ground.specs.Earliest.{IsEarliest}
 use Rattle.cep_base.proofs.Elements.{contains_none, contains_first, contains_cases, contains_left, contains_right, contains_either}
+pub use Rattle.cep_base.proofs.Lists.{take_next}
 
 -- how two numbers compare
 data Lines (a b : ℕ) : Type 0 where
@@ -16,30 +17,20 @@ data Lines (a b : ℕ) : Type 0 where
   above : b < a → Lines a b
 
 next_lines : (a b : ℕ) → Lines a b → Lines (suc a) (suc b)
-next_lines a b (below h) = below (omega (arith, h))
-next_lines a b (level h) = level (omega (arith, h))
-next_lines a b (above h) = above (omega (arith, h))
+next_lines a b given = grind arith
 
 lines : (a b : ℕ) → Lines a b
-lines zero zero = level refl
-lines zero (suc b) = below (omega arith)
-lines (suc a) zero = above (omega arith)
 lines (suc a) (suc b) = next_lines a b (lines a b)
+lines a b = grind arith
 
 chain_line : (one other next : Pos) → ¬ (StandsBefore other one) → ¬ (StandsBefore next other) → Lines other.line one.line → next.line < one.line → ⊥
-chain_line one other next no_ no' (below h) less = no_ (inl h)
-chain_line one other next no_ no' (level h) less = no' (inl (omega (arith, h, less)))
-chain_line one other next no_ no' (above h) less = no' (inl (omega (arith, h, less)))
+chain_line one other next no_ no' given less = grind arith
 
 chain_level : (one other next : Pos) → ¬ (StandsBefore other one) → ¬ (StandsBefore next other) → other.line ≡ one.line → Lines other.col one.col → next.line ≡ one.line → next.col < one.col → ⊥
-chain_level one other next no_ no' h (below g) same less = no_ (inr (h, g))
-chain_level one other next no_ no' h (level g) same less = no' (inr ((omega (arith, h, same)), (omega (arith, g, less))))
-chain_level one other next no_ no' h (above g) same less = no' (inr ((omega (arith, h, same)), (omega (arith, g, less))))
+chain_level one other next no_ no' h given same less = grind arith
 
 chain_col : (one other next : Pos) → ¬ (StandsBefore other one) → ¬ (StandsBefore next other) → Lines other.line one.line → next.line ≡ one.line → next.col < one.col → ⊥
-chain_col one other next no_ no' (below h) same less = no_ (inl h)
-chain_col one other next no_ no' (above h) same less = no' (inl (omega (arith, h, same)))
-chain_col one other next no_ no' (level h) same less = chain_level one other next no_ no' h (lines other.col one.col) same less
+chain_col one other next no_ no' given same less = grind (arith, chain_level, lines)
 
 -- a place that does not stand before one does not stand before an earlier one
 pub chain : (one other next : Pos) → ¬ (StandsBefore other one) → ¬ (StandsBefore next other) → ¬ (StandsBefore next one)
@@ -76,12 +67,6 @@ other_alone answer xs ys none other = subst (λ zs. IsEarliest zs answer) (sym (
 
 pub single : (pos : Pos) → IsEarliest (pos ∷ []) (Some pos)
 single pos = grind (arith, contains_first, contains_none, contains_cases, pos.line)
-
--- one item more
-pub take_next : {X : Type 0} (xs : List X) (i : ℕ) (x : X) → slice_get xs i ≡ Some x → take (i + 1) xs ≡ take i xs ++ x ∷ []
-take_next [] i x found = absurd cc
-take_next (y ∷ xs) zero x found = let same : y ≡ x = cc in ap (λ z. z ∷ []) same
-take_next (y ∷ xs) (suc i) x found = grind (arith, take_next xs i x found)
 
 -- and the places of one list more
 pub flat_next : (lists : List (List Pos)) (i : ℕ) (places : List Pos) → slice_get lists i ≡ Some places → flat_map (λ ps. ps) (take (i + 1) lists) ≡ flat_map (λ ps. ps) (take i lists) ++ places

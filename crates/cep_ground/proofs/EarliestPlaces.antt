@@ -13,16 +13,12 @@ use Rattle.cep_ground.proofs.EarliestLaws.{one_place}
 
 -- places in bytes and by lines, all lists joined
 pub both_places : (text : List ℕ) (ats : List ℕ) (ps : List Pos) (more_ : List ℕ) (others : List Pos) → ArePlaces text ats ps → ArePlaces text more_ others → ArePlaces text (ats ++ more_) (ps ++ others)
-both_places text [] [] more_ others here there = there
-both_places text [] (p ∷ ps) more_ others here there = absurd here
-both_places text (at ∷ ats) [] more_ others here there = absurd here
 both_places text (at ∷ ats) (p ∷ ps) more_ others here there = (here.0, both_places text ats ps more_ others here.1 there)
+both_places text ats ps more_ others here there = grind arith
 
 pub joined : (text : List ℕ) (ats : List (List ℕ)) (lists : List (List Pos)) → ArePlaceLists text ats lists → ArePlaces text (flat_map (λ xs. xs) ats) (flat_map (λ ps. ps) lists)
-joined text [] [] are = tt
-joined text [] (ps ∷ lists) are = absurd are
-joined text (xs ∷ ats) [] are = absurd are
 joined text (xs ∷ ats) (ps ∷ lists) are = both_places text xs ps (flat_map (λ ys. ys) ats) (flat_map (λ qs. qs) lists) are.0 (joined text ats lists are.1)
+joined text ats lists are = grind arith
 
 -- the place by its line of one in bytes, and the other way round
 pub record AtPos (text : List ℕ) (ps : List Pos) (at : ℕ) : Type 0 where
@@ -31,13 +27,12 @@ pub record AtPos (text : List ℕ) (ps : List Pos) (at : ℕ) : Type 0 where
   pub is : IsPlaceAfter (take at text) pos
 
 pub at_pos : (text : List ℕ) (ats : List ℕ) (ps : List Pos) (at : ℕ) → ArePlaces text ats ps → Contains ats at → AtPos text ps at
-at_pos text [] ps at are there = absurd (contains_none at there)
-at_pos text (a ∷ ats) [] at are there = absurd are
 at_pos text (a ∷ ats) (p ∷ ps) at are there =
     ⊎_elim
     (λ (same : a ≡ at). record { pos = p; there = contains_first p ps; is = subst (λ n. IsPlaceAfter (take n text) p) same are.0 })
     (λ later. let rest = at_pos text ats ps at are.1 later in record { pos = rest.pos; there = contains_behind p ps rest.pos rest.there; is = rest.is })
     (contains_cases a ats at there)
+at_pos text ats ps at are there = grind arith
 
 record AtByte (text : List ℕ) (ats : List ℕ) (pos : Pos) : Type 0 where
   at : ℕ
@@ -45,13 +40,12 @@ record AtByte (text : List ℕ) (ats : List ℕ) (pos : Pos) : Type 0 where
   is : IsPlaceAfter (take at text) pos
 
 at_byte : (text : List ℕ) (ats : List ℕ) (ps : List Pos) (pos : Pos) → ArePlaces text ats ps → Contains ps pos → AtByte text ats pos
-at_byte text ats [] pos are there = absurd (contains_none pos there)
-at_byte text [] (p ∷ ps) pos are there = absurd are
 at_byte text (a ∷ ats) (p ∷ ps) pos are there =
     ⊎_elim
     (λ (same : p ≡ pos). record { at = a; there = contains_first a ats; is = subst (λ q. IsPlaceAfter (take a text) q) same are.0 })
     (λ later. let rest = at_byte text ats ps pos are.1 later in record { at = rest.at; there = contains_behind a ats rest.at rest.there; is = rest.is })
     (contains_cases p ps pos there)
+at_byte text ats ps pos are there = grind (arith, contains_none)
 
 -- the least of some numbers
 record HasLeast (ns : List ℕ) : Type 0 where

@@ -1,5 +1,5 @@
 -- Facts of a text: which atoms are facts, and what it means to be written alike.
-use Rattle.std.proofs.Common.{◌≡◌, ℕ, ◌==◌, Bool, true, false, ◌&&◌, List, [], ◌∷◌, Option, Some, None, refl, ap, ◌∙◌}
+use Rattle.std.proofs.Common.{◌≡◌, ℕ, ◌==◌, Bool, true, false, ◌&&◌, List, [], ◌∷◌, Option, Some, None, refl, ap, ◌∙◌, arith}
 use Rattle.std.specs.Prelude.{unwrap_or, slice_get}
 use Rattle.std.specs.Option.{option_map}
 use Rattle.std.proofs.lemmas.Option.{slice_get-map}
@@ -19,7 +19,7 @@ use Rattle.cep_source.specs.declared.space.Space.TheVariants as space
 use Rattle.cep_source.specs.Items.{Source, PredItem, preds_of, said}
 use Rattle.cep_source.specs.Starts.{is_node_alike, are_nodes_alike, is_written_alike}
 use Rattle.cep_source.specs.Variables.{blanks_behind}
-use Rattle.cep_types.specs.Heads.{con, number_of, head_at, heads_from}
+use Rattle.cep_types.specs.Heads.{number_of, head_at, heads_from}
 use Rattle.cep_infer.specs.Heads.{IsAtomBy}
 use Rattle.cep_infer.specs.Meaning.{pred_by, signature_of, is_fact_by}
 use Rattle.cep_infer.specs.States.{AreClosed}
@@ -35,28 +35,21 @@ fact_by source a =
     by (Some pred) = refl
 
 both_true : (a b : Bool) → (a && b) ≡ true → (a ≡ true) × (b ≡ true)
-both_true true b e = (refl, e)
-both_true false b e = absurd cc
+both_true a b e = grind arith
 
 -- nodes that are written alike, and are no variables, have one head
 head_same : (source : Source) (blanks more_ : ℕ) (shape other_ : RawKind) (at at' : Span) (args args' : ℕ) → shape ≡ kind.App → other_ ≡ kind.App → said source at ≡ said source at' → args ≡ args'
     → head_at source [] blanks shape at args ≡ head_at source [] more_ other_ at' args'
-head_same source blanks more_ kind.App kind.App at at' args args' one other name count = λ i. con (number_of source space.Constructors (name i)) (count i)
-head_same source blanks more_ kind.App kind.Var at at' args args' one other name count = absurd cc
-head_same source blanks more_ kind.App kind.Blank at at' args args' one other name count = absurd cc
-head_same source blanks more_ kind.Var other_ at at' args args' one other name count = absurd cc
-head_same source blanks more_ kind.Blank other_ at at' args args' one other name count = absurd cc
+head_same source blanks more_ shape other_ at at' args args' one other name count = grind arith
 
 heads_same : (source : Source) (blanks more_ : ℕ) (ones others : List RawNode) → are_nodes_alike source ones others ≡ true → AreClosed ones → AreClosed others → heads_from source [] blanks ones ≡ heads_from source [] more_ others
-heads_same source blanks more_ [] [] alike closed closed' = refl
-heads_same source blanks more_ [] (other ∷ others) alike closed closed' = absurd cc
-heads_same source blanks more_ (one ∷ ones) [] alike closed closed' = absurd cc
 heads_same source blanks more_ (one ∷ ones) (other ∷ others) alike closed closed' =
     let parts = both_true (is_node_alike source one other) (are_nodes_alike source ones others) alike in
     let node_ = both_true (bytes_eq (said source one.at) (said source other.at)) (one.args == other.args) parts.0 in
     let here = head_same source blanks more_ one.kind other.kind one.at other.at one.args other.args closed.0 closed'.0 ((bytes_eq-Decides (said source one.at) (said source other.at)).0 node_.0) (eqb-true one.args other.args node_.1) in
     let rest = heads_same source (blanks_behind blanks one.kind) (blanks_behind more_ other.kind) ones others parts.1 closed.1 closed'.1 in
     cc
+heads_same source blanks more_ ones others alike closed closed' = grind arith
 
 -- so atoms of states that are written alike are one atom
 pub alike_atoms : (source : Source) (one other : RawAtom) (blanks more_ : ℕ) (a b : AtomTree) → is_written_alike source one other ≡ true → AreClosed one.nodes → AreClosed other.nodes → IsAtomBy source [] blanks one a → IsAtomBy source [] more_ other b → a ≡ b

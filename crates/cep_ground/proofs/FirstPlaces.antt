@@ -16,10 +16,7 @@ names_among occurrences = map (λ (o : Occurrence). o.name) occurrences
 -- where all names were seen, none occurs first
 none_first : (seen : List (List ℕ)) (ys : List Occurrence) → ((y : Occurrence) → Contains ys y → Contains seen y.name) → firsts_beside seen ys ≡ []
 none_first seen [] all = refl
-none_first seen (y ∷ ys) all =
-    let yes = is_any seen y.name (all y (contains_first y ys)) in
-    ap (λ b. if b then firsts_beside seen ys else y ∷ firsts_beside (y.name ∷ seen) ys) yes
-    ∙ none_first seen ys (λ z there. all z (contains_behind y ys z there))
+none_first seen (y ∷ ys) all = let yes = is_any seen y.name (all y (contains_first y ys)) in rw (yes, none_first seen ys (λ z there. all z (contains_behind y ys z there)))
 
 append_by : (b : Bool) (seen : List (List ℕ)) (x : Occurrence) (xs ys : List Occurrence)
     → ((y : Occurrence) → Contains ys y → Contains seen y.name ⊎ Contains (names_among (if b then firsts_beside seen xs else x ∷ firsts_beside (x.name ∷ seen) xs)) y.name)
@@ -40,9 +37,7 @@ append_by false seen x xs ys all old new =
 -- where all further names occur before, the first occurrences stay
 pub firsts_append : (seen : List (List ℕ)) (xs ys : List Occurrence) → ((y : Occurrence) → Contains ys y → Contains seen y.name ⊎ Contains (names_among (firsts_beside seen xs)) y.name) → firsts_beside seen (xs ++ ys) ≡ firsts_beside seen xs
 firsts_append seen [] ys all = none_first seen ys (λ y there. ⊎_elim (λ seen_. seen_) (λ never. absurd (contains_none y.name never)) (all y there))
-firsts_append seen (x ∷ xs) ys all =
-    append_by (list_any (λ name. bytes_eq name x.name) seen) seen x xs ys all
-    (λ old. firsts_append seen xs ys old) (λ new. firsts_append (x.name ∷ seen) xs ys new)
+firsts_append seen (x ∷ xs) ys all = rw (append_by (list_any (λ name. bytes_eq name x.name) seen) seen x xs ys all (λ old. firsts_append seen xs ys old) (λ new. firsts_append (x.name ∷ seen) xs ys new))
 
 -- A variable has its own number, and was not seen before.
 pub record HasPlace (seen : List (List ℕ)) (firsts_ : List Occurrence) (v : ℕ) (o : Occurrence) : Type 0 where
@@ -50,8 +45,7 @@ pub record HasPlace (seen : List (List ℕ)) (firsts_ : List Occurrence) (v : �
   pub unseen : ¬ (Contains seen o.name)
 
 differ_by : (xs ys : List ℕ) → (xs ≡ ys → ⊥) → (b : Bool) → bytes_eq xs ys ≡ b → b ≡ false
-differ_by xs ys differ true e = absurd (differ (same_bytes xs ys e))
-differ_by xs ys differ false e = refl
+differ_by xs ys differ b e = grind (arith, same_bytes)
 
 place_by : (b : Bool) (seen : List (List ℕ)) (x : Occurrence) (xs : List Occurrence) (v : ℕ) (o : Occurrence) → list_any (λ name. bytes_eq name x.name) seen ≡ b
     → slice_get (if b then firsts_beside seen xs else x ∷ firsts_beside (x.name ∷ seen) xs) v ≡ Some o
@@ -87,9 +81,8 @@ first_place seen (x ∷ xs) v o found =
 -- so its name has its number
 pub variable_at : (xs : List Occurrence) (v : ℕ) (o : Occurrence) → slice_get (firsts_beside [] xs) v ≡ Some o → variable_of (names_among (firsts_beside [] xs)) o.name ≡ v
 variable_at xs v o found =
-    let number = (first_place [] xs v o found).number in
     position_there (λ other. bytes_eq other o.name) (names_among (firsts_beside [] xs))
-    (within (contains_map (λ (p : Occurrence). p.name) (firsts_beside [] xs) o (contains_at (firsts_beside [] xs) v o found))) ∙ number
+    (within (contains_map (λ (p : Occurrence). p.name) (firsts_beside [] xs) o (contains_at (firsts_beside [] xs) v o found))) ∙ ((first_place [] xs v o found).number)
   where
     within : Contains (names_among (firsts_beside [] xs)) o.name → place (λ other. bytes_eq other o.name) (names_among (firsts_beside [] xs)) < length (names_among (firsts_beside [] xs))
     within there = place_within (λ other. bytes_eq other o.name) (names_among (firsts_beside [] xs)) (is_any (names_among (firsts_beside [] xs)) o.name there)

@@ -24,17 +24,15 @@ use Rattle.cep_rule.specs.declared.rule.Rule.{Rule}
 use Rattle.cep_rule.specs.Program.{IsGroupedRule}
 use Rattle.cep_ground.specs.Texts.{IsClean}
 use Rattle.cep_base.proofs.Bytes.{any_map}
-use Rattle.cep_base.proofs.Lists.{none_some, some_same}
-use Rattle.cep_base.proofs.Elements.{contains_none, contains_first, contains_cases, contains_same, contains_left, contains_right, contains_map, contains_flat, flat_cases, map_cases}
+use Rattle.cep_base.proofs.Lists.{none_some}
+use Rattle.cep_base.proofs.Elements.{contains_none, contains_first, contains_cases, contains_left, contains_right, contains_map, contains_flat, flat_cases, map_cases}
 use Rattle.cep_ground.proofs.Known.{known}
 use Rattle.cep_ground.proofs.Located.{number_within}
 use Rattle.cep_ground.proofs.Wanted.{is_any}
 
 -- the stage of a rule is one of those that are declared
 home_at : (next : RawItem) (rule : RuleItem) (stage : Span) → Contains (declares next).rules rule → rule.home ≡ Some stage → Contains (declares next).stages stage
-home_at (item.Stage name raws) rule stage there home =
-    let is = map_cases (λ (raw : RawRule). record { home = Some name; raw = raw }) raws rule there in
-    contains_same name [] stage (some_same name stage (ap (λ (one : RuleItem). one.home) is.same ∙ home))
+home_at (item.Stage name raws) rule stage there home = grind (arith, map_cases (λ (raw : RawRule). record { home = Some name; raw = raw }) raws rule there)
 home_at (item.Outer raw) rule stage there home = grind (arith, none_some, contains_none, contains_cases)
 home_at _ rule stage there home = absurd (contains_none rule there)
 
@@ -48,10 +46,7 @@ stage_declared source stage there = grind (arith, any_map, is_any (map (said sou
 
 module _ (source : Source) (clean : IsClean source) where
   stage_in_range : (name : List ℕ) → is_in source space.Stages name ≡ true → number_of source space.Stages name < length (stages_of source)
-  stage_in_range name is =
-      let within = number_within source space.Stages name is in
-      let size = length-map (stages_of source) (named source) in
-      omega (arith, within, size)
+  stage_in_range name is = omega (arith, number_within source space.Stages name is, length-map (stages_of source) (named source))
 
   pub used_stage : (span : Span) → Contains (uses_in source space.Stages) span → number_of source space.Stages (said source span) < length (stages_of source)
   used_stage span there = stage_in_range (said source span) (known source space.Stages span clean.names there)

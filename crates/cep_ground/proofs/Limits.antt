@@ -1,10 +1,11 @@
 -- How many there are at most.
 use Rattle.std.proofs.Common.{◌≡◌, ◌⊎◌, inl, inr, ⊎_elim, ℕ, zero, suc, ◌+◌, ◌*◌, ◌≤◌, Bool, true, false, List, [], ◌∷◌, length, map, filter, refl, sym, subst, arith, Contains, length-append}
 use Rattle.std.specs.Prelude.{Some, slice_get, cond}
-use Rattle.std.specs.List.{AllByRecursion, AllZip, flat_map}
+use Rattle.std.specs.List.{AllByRecursion, AllZip}
 use Rattle.cep_parse.specs.declared.raw.RawAtom.{RawAtom}
 use Rattle.cep_parse.specs.Raw.{raw_nodes}
-use Rattle.cep_base.proofs.Elements.{contains_first, contains_behind, contains_cases, both_all}
+use Rattle.cep_base.proofs.Elements.{contains_first, contains_behind, contains_cases}
+pub use Rattle.cep_base.proofs.Lists.{all_flat, all_filtered as all_filter}
 
 -- where nothing stands at a place, there are not more
 pub at_most : {X : Type 0} (xs : List X) (n : ℕ) → ((x : X) → slice_get xs n ≡ Some x → ⊥) → length xs ≤ n
@@ -13,10 +14,7 @@ at_most (x ∷ xs) zero none = absurd (none x refl)
 at_most (x ∷ xs) (suc n) none = let rest = at_most xs n none in omega (arith, rest)
 
 filter_size_by : {X : Type 0} (b c : Bool) (x : X) (n m k : ℕ) → (b ≡ true) ⊎ (c ≡ true) → n ≤ m + k → suc n ≤ cond b (suc m) m + cond c (suc k) k
-filter_size_by true true x n m k some few = omega arith
-filter_size_by true false x n m k some few = omega arith
-filter_size_by false true x n m k some few = omega arith
-filter_size_by false false x n m k some few = ⊎_elim (λ (e : false ≡ true). absurd cc) (λ (e : false ≡ true). absurd cc) some
+filter_size_by b c x n m k some few = grind arith
 
 filter_size : {X : Type 0} (p : X → Bool) (x : X) (xs : List X) → length (filter p (x ∷ xs)) ≡ cond (p x) (suc (length (filter p xs))) (length (filter p xs))
 filter_size p x xs = grind arith
@@ -27,48 +25,25 @@ filters_cover p q [] some = omega arith
 filters_cover p q (x ∷ xs) some =
     let rest = filters_cover p q xs (λ y there. some y (contains_behind x xs y there)) in
     let all = filter_size_by (p x) (q x) x (length xs) (length (filter p xs)) (length (filter q xs)) (some x (contains_first x xs)) rest in
-    let e = filter_size p x xs in
-    let f = filter_size q x xs in
-    omega (arith, all, e, f)
+    omega (arith, all, (filter_size p x xs), (filter_size q x xs))
 
 -- the nodes of some atoms, each of which has not too many
 pub nodes_few : (atoms : List RawAtom) → ((raw : RawAtom) → Contains atoms raw → length raw.nodes ≤ 1048576) → length (raw_nodes atoms) ≤ length atoms * 1048576
 nodes_few [] few = omega arith
-nodes_few (raw ∷ atoms) few =
-    let here = few raw (contains_first raw atoms) in
-    let rest = nodes_few atoms (λ other there. few other (contains_behind raw atoms other there)) in
-    let e = length-append raw.nodes (raw_nodes atoms) in
-    omega (arith, here, rest, e)
-
-all_cond : {X : Type 0} (P : X → Type 0) (b : Bool) (x : X) (xs : List X) → P x → AllByRecursion P xs → AllByRecursion P (cond b (x ∷ xs) xs)
-all_cond P true x xs here all = (here, all)
-all_cond P false x xs here all = all
-
--- what holds of all holds of those that pass a test
-pub all_filter : {X : Type 0} (P : X → Type 0) (p : X → Bool) (xs : List X) → AllByRecursion P xs → AllByRecursion P (filter p xs)
-all_filter P p [] all = tt
-all_filter P p (x ∷ xs) all = all_cond P (p x) x (filter p xs) all.0 (all_filter P p xs all.1)
+nodes_few (raw ∷ atoms) few = omega (arith, few raw (contains_first raw atoms), nodes_few atoms (λ other there. few other (contains_behind raw atoms other there)), length-append raw.nodes (raw_nodes atoms))
 
 -- and of what is made of each
 pub all_map : {X Y : Type 0} (P : Y → Type 0) (f : X → Y) (xs : List X) → AllByRecursion (λ x. P (f x)) xs → AllByRecursion P (map f xs)
 all_map P f [] all = tt
 all_map P f (x ∷ xs) all = (all.0, all_map P f xs all.1)
 
--- and of all that each gives
-pub all_flat : {X Y : Type 0} (P : X → Type 0) (Q : Y → Type 0) (f : X → List Y) (xs : List X) → ((x : X) → P x → AllByRecursion Q (f x)) → AllByRecursion P xs → AllByRecursion Q (flat_map f xs)
-all_flat P Q f [] each all = tt
-all_flat P Q f (x ∷ xs) each all = both_all Q (f x) (flat_map f xs) (each x all.0) (all_flat P Q f xs each all.1)
-
 -- and of all to which one of a list is related
 pub all_zip : {X Y : Type 0} (R : X → Y → Type 0) (P : Y → Type 0) (xs : List X) (ys : List Y) → ((x : X) (y : Y) → Contains xs x → R x y → P y) → AllZip R xs ys → AllByRecursion P ys
-all_zip R P [] [] each are = tt
-all_zip R P [] (y ∷ ys) each are = absurd are
-all_zip R P (x ∷ xs) [] each are = absurd are
 all_zip R P (x ∷ xs) (y ∷ ys) each are = (each x y (contains_first x xs) are.0, all_zip R P xs ys (λ other z there is. each other z (contains_behind x xs other there) is) are.1)
+all_zip R P xs ys each are = grind arith
 
 passes_cond : {X : Type 0} (p : X → Bool) (b : Bool) (x : X) (xs : List X) → p x ≡ b → AllByRecursion (λ y. p y ≡ true) xs → AllByRecursion (λ y. p y ≡ true) (cond b (x ∷ xs) xs)
-passes_cond p true x xs is all = (is, all)
-passes_cond p false x xs is all = all
+passes_cond p b x xs is all = grind arith
 
 -- those that pass a test pass it
 pub all_pass : {X : Type 0} (p : X → Bool) (xs : List X) → AllByRecursion (λ x. p x ≡ true) (filter p xs)

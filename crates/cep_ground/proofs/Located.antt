@@ -23,12 +23,10 @@ pub position_there : {X : Type 0} (p : X → Bool) (xs : List X) → place p xs 
 position_there p xs within = grind (arith, place_is, lt-ltb)
 
 or_rest : (one other : Bool) → one ≡ false → (one || other) ≡ true → other ≡ true
-or_rest true other e any = absurd cc
-or_rest false other e any = any
+or_rest one other e any = grind arith
 
 within_by : (b : Bool) (n m : ℕ) → (b ≡ false → n < m) → cond b 0 (1 + n) < suc m
-within_by true n m later = omega arith
-within_by false n m later = let h = later refl in omega (arith, h)
+within_by b n m later = grind arith
 
 -- what passes somewhere has a place
 pub place_within : {X : Type 0} (p : X → Bool) (xs : List X) → list_any p xs ≡ true → place p xs < length xs
@@ -48,8 +46,7 @@ abbrev IsFoundAt : {Y : Type 0} → List Y → Y → ℕ → Type 0
 IsFoundAt ys y n = (slice_get ys n ≡ Some y) × (n < length ys)
 
 found_by : {Y : Type 0} (b : Bool) (z y : Y) (ys : List Y) (further : Option Y) (n : ℕ) → cond b (Some z) further ≡ Some y → (further ≡ Some y → IsFoundAt ys y n) → IsFoundAt (z ∷ ys) y (cond b 0 (1 + n))
-found_by true z y ys further n found later = (found, omega arith)
-found_by false z y ys further n found later = grind arith
+found_by b z y ys further n found later = grind arith
 
 module _ {X Y : Type 0} (g : Y → X) (p : X → Bool) where
   found_at : (ys : List Y) (y : Y) → find (λ z. p (g z)) ys ≡ Some y → IsFoundAt ys y (place p (map g ys))

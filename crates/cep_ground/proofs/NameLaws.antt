@@ -3,13 +3,12 @@ use Rattle.std.proofs.Common.{get_or, ◌≡◌, ℕ, suc, ◌+◌, ◌<◌, ◌
 use Rattle.std.proofs.lemmas.Fmt.{decimal_is_IsNumeral, length-decimal-le}
 use Rattle.std.proofs.lemmas.Str.Parse.{digit_from_value}
 use Rattle.std.proofs.lemmas.Bool.{le-leb}
-use Rattle.std.specs.Prelude.{Option, Some, None, codes, decimal, ◌==◌}
+use Rattle.std.specs.Prelude.{Option, codes, decimal, ◌==◌}
 use Rattle.std.specs.Int.{IsInRange}
 use Rattle.std.specs.Str.Parse.{AllDigits}
 use Rattle.std.specs.List.{AllByRecursion}
 use Rattle.cep_base.specs.Spelling.{is_name_byte}
 use Rattle.cep_parse.specs.declared.raw.Span.{Span}
-use Rattle.cep_parse.specs.declared.raw.RawRule.{RawRule}
 use Rattle.cep_parse.specs.declared.raw.RawItem.{RawItem}
 use Rattle.cep_parse.specs.declared.raw.RawItem.TheVariants as item
 use Rattle.cep_parse.specs.Written.{IsNameAt, IsLabelOf, IsRuleOf, IsItemOf}
@@ -17,7 +16,7 @@ use Rattle.cep_rule.specs.Names.{IsName, AreNames, AllDiffer}
 use Rattle.cep_refusal.specs.declared.reason.Reason.TheVariants.{OverLimit}
 use Rattle.cep_source.specs.declared.space.Space.{Space}
 use Rattle.cep_source.specs.declared.space.Space.TheVariants as space
-use Rattle.cep_source.specs.Items.{Source, PredItem, ConItem, RuleItem, declares, said, sorts_of, preds_of, cons_in, cons_of, stages_of, rules_of, is_labelled}
+use Rattle.cep_source.specs.Items.{Source, PredItem, ConItem, RuleItem, declares, said, sorts_of, preds_of, cons_in, cons_of, stages_of, rules_of}
 use Rattle.cep_source.specs.Spaces.{Named, named, names_in, rule_name, unlabelled_behind, rule_names_from}
 use Rattle.cep_refusal.specs.First.{wrong}
 use Rattle.cep_faults.specs.Misnamed.Misnamed.{over}
@@ -78,40 +77,31 @@ module _ (source : Source) (clean : IsClean source) (items : AllByRecursion (IsI
 
   -- what an item declares has names
   named_sort : (item_ : RawItem) → IsItemOf clean.is_source.tokens item_ → AllByRecursion (λ span. IsName (said source span)) (declares item_).sorts
-  named_sort (item.Sort name) is = (name_at name is, tt)
-  named_sort _ is = tt
+  named_sort item_ is = grind (arith, name_at)
 
   named_stage : (item_ : RawItem) → IsItemOf clean.is_source.tokens item_ → AllByRecursion (λ span. IsName (said source span)) (declares item_).stages
-  named_stage (item.Stage name rules) is = (name_at name is.0, tt)
-  named_stage _ is = tt
+  named_stage item_ is = grind (arith, name_at)
 
   named_pred : (item_ : RawItem) → IsItemOf clean.is_source.tokens item_ → AllByRecursion (λ (pred : PredItem). IsName (said source pred.name)) (declares item_).preds
-  named_pred (item.Pred name args of_kind) is = (name_at name is.0, tt)
-  named_pred _ is = tt
+  named_pred item_ is = grind (arith, name_at)
 
   con_by_label : (labelled : Bool) (con : ConItem) → IsName (said source con.name) → AllByRecursion (λ (con : ConItem). IsName (said source con.name)) (if not labelled then con ∷ [] else [])
-  con_by_label true con is = tt
-  con_by_label false con is = (is, tt)
+  con_by_label labelled con is = grind arith
 
   named_con : (item_ : RawItem) → IsItemOf clean.is_source.tokens item_ → AllByRecursion (λ (con : ConItem). IsName (said source con.name)) (cons_in source item_)
-  named_con (item.Colon left args right) is = con_by_label (is_labelled source args right) (record { name = left; args = args; sort = right }) (name_at left is.0)
-  named_con _ is = tt
+  named_con item_ is = grind (arith, con_by_label, name_at)
 
   rules_made : (item_ : RawItem) → IsItemOf clean.is_source.tokens item_ → AllByRecursion (λ (rule : RuleItem). IsRuleOf clean.is_source.tokens rule.raw) (declares item_).rules
-  rules_made (item.Outer raw) is = (is, tt)
-  rules_made (item.Stage name raws) is = all_map (λ (rule : RuleItem). IsRuleOf clean.is_source.tokens rule.raw) (λ (raw : RawRule). record { home = Some name; raw = raw }) raws is.1
-  rules_made _ is = tt
+  rules_made item_ is = grind (arith, all_map)
 
   label_made : (rule : RuleItem) → Contains (rules_of source) rule → IsLabelOf clean.is_source.tokens rule.raw.label
   label_made rule there = (all_at (λ (one : RuleItem). IsRuleOf clean.is_source.tokens one.raw) (rules_of source) rule (all_flat (IsItemOf clean.is_source.tokens) (λ (one : RuleItem). IsRuleOf clean.is_source.tokens one.raw) (λ item_. (declares item_).rules) source.file rules_made items) there).label
 
   rule_name_is : (unlabelled : ℕ) (label : Option Span) → unlabelled + 1 < 2 ^ 63 → IsLabelOf clean.is_source.tokens label → IsName (rule_name source unlabelled label)
-  rule_name_is unlabelled (Some label) few is = name_at label is
-  rule_name_is unlabelled None few is = qui_name unlabelled few
+  rule_name_is unlabelled label few is = grind (arith, name_at, qui_name)
 
   more_rules : (unlabelled size : ℕ) (label : Option Span) → unlabelled + suc size < 2 ^ 62 → unlabelled_behind unlabelled label + size < 2 ^ 62
-  more_rules unlabelled size (Some label) few = omega arith
-  more_rules unlabelled size None few = omega arith
+  more_rules unlabelled size label few = grind arith
 
   rule_names_are : (unlabelled : ℕ) (rules : List RuleItem) → unlabelled + length rules < 2 ^ 62 → ((rule : RuleItem) → Contains rules rule → Contains (rules_of source) rule) → AllByRecursion IsName (map (λ (n : Named). n.name) (rule_names_from source unlabelled rules))
   rule_names_are unlabelled [] few among = tt

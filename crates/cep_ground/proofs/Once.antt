@@ -1,5 +1,5 @@
 -- A text declares one program at most.
-use Rattle.std.proofs.Common.{◌≡◌, ℕ, ◌||◌, not, List, [], ◌∷◌, map, filter, refl, sym, ap, subst, ◌∙◌}
+use Rattle.std.proofs.Common.{◌≡◌, ℕ, ◌||◌, not, List, [], ◌∷◌, map, filter, sym, ap, subst, ◌∙◌, arith}
 use Rattle.std.proofs.lemmas.List.{append-nil}
 use Rattle.std.specs.Option.{option_and_then}
 use Rattle.std.specs.List.{AllZip}
@@ -10,7 +10,7 @@ use Rattle.cep_parse.specs.declared.raw.RawAtom.{RawAtom}
 use Rattle.cep_parse.specs.declared.raw.RawElem.{RawElem}
 use Rattle.cep_parse.specs.declared.raw.RawElem.TheVariants as elem
 use Rattle.cep_term.specs.Tree.{AtomTree}
-use Rattle.cep_term.specs.Multiset.{Multiset, gathered, once}
+use Rattle.cep_term.specs.Multiset.{Multiset}
 use Rattle.cep_rule.specs.declared.rule.Rule.{Rule}
 use Rattle.cep_rule.specs.declared.parts.Parts.{Parts}
 use Rattle.cep_rule.specs.Patterns.{PremiseTree, ClauseTree}
@@ -26,37 +26,24 @@ same_atom : (a b : AtomTree) → a.pred ≡ b.pred → a.args ≡ b.args → a �
 same_atom a b pred args = λ i. record { pred = pred i; args = args i }
 
 pub atom_once : (source : Source) (vars : List (List ℕ)) (blanks : ℕ) (raw : RawAtom) (a b : AtomTree) → IsAtomBy source vars blanks raw a → IsAtomBy source vars blanks raw b → a ≡ b
-atom_once source vars blanks raw a b one other =
-    let args = terms_once a.args b.args [] [] (one.count ∙ sym other.count) (append-nil (heads_among a.args) ∙ one.heads ∙ sym other.heads ∙ sym (append-nil (heads_among b.args))) in
-    same_atom a b (one.pred ∙ sym other.pred) args.same
+atom_once source vars blanks raw a b one other = grind (arith, terms_once a.args b.args [] [] (one.count ∙ sym other.count) (append-nil (heads_among a.args) ∙ one.heads ∙ sym other.heads ∙ sym (append-nil (heads_among b.args))))
 
 atoms_once : (source : Source) (vars : List (List ℕ)) (blanks : ℕ) (raws : List RawAtom) (xs ys : List AtomTree) → AreAtomsBy source vars blanks raws xs → AreAtomsBy source vars blanks raws ys → xs ≡ ys
-atoms_once source vars blanks [] [] [] one other = refl
-atoms_once source vars blanks [] [] (y ∷ ys) one other = absurd other
-atoms_once source vars blanks [] (x ∷ xs) ys one other = absurd one
-atoms_once source vars blanks (raw ∷ raws) [] ys one other = absurd one
-atoms_once source vars blanks (raw ∷ raws) (x ∷ xs) [] one other = absurd other
-atoms_once source vars blanks (raw ∷ raws) (x ∷ xs) (y ∷ ys) one other =
-    let here = atom_once source vars blanks raw x y one.0 other.0 in
-    let rest = atoms_once source vars (blanks_after blanks raw.nodes) raws xs ys one.1 other.1 in
-    cc
+atoms_once source vars blanks (raw ∷ raws) (x ∷ xs) (y ∷ ys) one other = cc (atom_once source vars blanks raw x y one.0 other.0, atoms_once source vars (blanks_after blanks raw.nodes) raws xs ys one.1 other.1)
+atoms_once source vars blanks raws xs ys one other = grind arith
 
 same_premise : (p q : PremiseTree) → p.kept ≡ q.kept → p.atom ≡ q.atom → p ≡ q
 same_premise p q kept atom = λ i. record { atom = atom i; kept = kept i }
 
 premises_once : (source : Source) (vars : List (List ℕ)) (blanks : ℕ) (elems : List RawElem) (xs ys : List PremiseTree) → ArePremisesBy source vars blanks elems xs → ArePremisesBy source vars blanks elems ys → xs ≡ ys
-premises_once source vars blanks [] [] [] one other = refl
-premises_once source vars blanks [] [] (y ∷ ys) one other = absurd other
-premises_once source vars blanks [] (x ∷ xs) ys one other = absurd one
 premises_once source vars blanks (elem.Qui span ∷ elems) xs ys one other = premises_once source vars blanks elems xs ys one other
 premises_once source vars blanks (elem.Stage span ∷ elems) xs ys one other = premises_once source vars blanks elems xs ys one other
-premises_once source vars blanks (elem.Atom kept raw ∷ elems) [] ys one other = absurd one
-premises_once source vars blanks (elem.Atom kept raw ∷ elems) (x ∷ xs) [] one other = absurd other
 premises_once source vars blanks (elem.Atom kept raw ∷ elems) (x ∷ xs) (y ∷ ys) one other =
     let atom = atom_once source vars blanks raw x.atom y.atom one.1 other.1 in
     let here = same_premise x y (one.0 ∙ ap (λ (a : AtomTree). kept || is_fact_by source a) atom ∙ sym other.0) atom in
     let rest = premises_once source vars (blanks_after blanks raw.nodes) elems xs ys one.2 other.2 in
     cc
+premises_once source vars blanks elems xs ys one other = grind arith
 
 same_rule : (r s : Rule) → r.name ≡ s.name → r.group ≡ s.group → r.vars ≡ s.vars → r.kinds ≡ s.kinds → r.premises ≡ s.premises → r.backs ≡ s.backs → r.right ≡ s.right → r.next ≡ s.next → r ≡ s
 same_rule r s name group vars kinds premises backs right next = λ i. record { name = name i; group = group i; vars = vars i; kinds = kinds i; premises = premises i; backs = backs i; right = right i; next = next i }
@@ -72,23 +59,16 @@ rule_once source item r s name one other =
     (one.next_is ∙ sym other.next_is)
 
 rules_once : (source : Source) (items : List RuleItem) (xs ys : List Rule) → map (λ (rule : Rule). rule.name) xs ≡ map (λ (rule : Rule). rule.name) ys → AllZip (IsRuleBy source) items xs → AllZip (IsRuleBy source) items ys → xs ≡ ys
-rules_once source [] [] [] names one other = refl
-rules_once source [] [] (y ∷ ys) names one other = absurd other
-rules_once source [] (x ∷ xs) ys names one other = absurd one
-rules_once source (item ∷ items) [] ys names one other = absurd one
-rules_once source (item ∷ items) (x ∷ xs) [] names one other = absurd other
 rules_once source (item ∷ items) (x ∷ xs) (y ∷ ys) names one other =
     let name : x.name ≡ y.name = cc in
     let others : map (λ (rule : Rule). rule.name) xs ≡ map (λ (rule : Rule). rule.name) ys = cc in
     let here = rule_once source item x y name one.0 other.0 in
     let rest = rules_once source items xs ys others one.1 other.1 in
     cc
+rules_once source items xs ys names one other = grind arith
 
 same_clause : (c d : ClauseTree) → c.vars ≡ d.vars → c.kinds ≡ d.kinds → c.head ∷ c.goals ≡ d.head ∷ d.goals → c ≡ d
-same_clause c d vars kinds atoms =
-    let head : c.head ≡ d.head = cc in
-    let goals : c.goals ≡ d.goals = cc in
-    λ i. record { vars = vars i; kinds = kinds i; head = head i; goals = goals i }
+same_clause c d vars kinds atoms = grind arith
 
 clause_once : (source : Source) (item : ClauseItem) (c d : ClauseTree) → IsClauseBy source item c → IsClauseBy source item d → c ≡ d
 clause_once source item c d one other =
@@ -97,23 +77,14 @@ clause_once source item c d one other =
     (atoms_once source d.vars 0 (clause_scope item) (c.head ∷ c.goals) (d.head ∷ d.goals) (subst (λ vs. AreAtomsBy source vs 0 (clause_scope item) (c.head ∷ c.goals)) vars one.atoms_are) other.atoms_are)
 
 clauses_once : (source : Source) (items : List ClauseItem) (xs ys : List ClauseTree) → AllZip (IsClauseBy source) items xs → AllZip (IsClauseBy source) items ys → xs ≡ ys
-clauses_once source [] [] [] one other = refl
-clauses_once source [] [] (y ∷ ys) one other = absurd other
-clauses_once source [] (x ∷ xs) ys one other = absurd one
-clauses_once source (item ∷ items) [] ys one other = absurd one
-clauses_once source (item ∷ items) (x ∷ xs) [] one other = absurd other
-clauses_once source (item ∷ items) (x ∷ xs) (y ∷ ys) one other =
-    let here = clause_once source item x y one.0 other.0 in
-    let rest = clauses_once source items xs ys one.1 other.1 in
-    cc
+clauses_once source (item ∷ items) (x ∷ xs) (y ∷ ys) one other = cc (clause_once source item x y one.0 other.0, clauses_once source items xs ys one.1 other.1)
+clauses_once source items xs ys one other = grind arith
 
 same_trace : (t u : TraceItem) (ts us : List TraceItem) → t ∷ ts ≡ u ∷ us → t ≡ u
 same_trace t u ts us e = cc
 
 start_once : (source : Source) (t u : TraceItem) (x y : Multiset) → t ≡ u → IsStartBy source t x → IsStartBy source u y → x ≡ y
-start_once source t u x y same one other =
-    let one' : IsStartBy source u x = subst (λ v. IsStartBy source v x) same one in
-    one'.start_is ∙ ap (λ (atoms : List AtomTree). once (is_fact_by source) (gathered atoms)) (atoms_once source [] 0 _ one'.atoms other.atoms one'.atoms_are other.atoms_are) ∙ sym other.start_is
+start_once source t u x y same one other = let one' : IsStartBy source u x = subst (λ v. IsStartBy source v x) same one in rw (one'.start_is, atoms_once source [] 0 _ one'.atoms other.atoms one'.atoms_are other.atoms_are, ← other.start_is)
 
 same_parts : (p q : Parts) → p.signature ≡ q.signature → p.stages ≡ q.stages → p.rules ≡ q.rules → p.clauses ≡ q.clauses → p.start_stage ≡ q.start_stage → p.start ≡ q.start → p.turns ≡ q.turns → p ≡ q
 same_parts p q signature stages rules clauses start_stage start turns = λ i. record { signature = signature i; stages = stages i; rules = rules i; clauses = clauses i; start_stage = start_stage i; start = start i; turns = turns i }

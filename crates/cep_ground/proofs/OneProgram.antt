@@ -43,6 +43,4 @@ source_once lexed parsed one other text is is' =
     same_source one other text (parsed other.text is'.tokens one.file other.file file is'.parsed)
 
 pub program_once : LexedOnce → FileOnce → (text : List ℕ) (one other : Parts) → Spells text one → Spells text other → one ≡ other
-program_once lexed parsed text one other is is' =
-    let same = source_once lexed parsed is.source is'.source (is.text_is ∙ sym is'.text_is) is.clean.is_source is'.clean.is_source in
-    parts_once is'.source one other (subst (λ s. AreParts s one) same is.declared) is'.declared
+program_once lexed parsed text one other is is' = parts_once is'.source one other (subst (λ s. AreParts s one) (source_once lexed parsed is.source is'.source (is.text_is ∙ sym is'.text_is) is.clean.is_source is'.clean.is_source) is.declared) is'.declared

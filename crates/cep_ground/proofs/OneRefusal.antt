@@ -1,5 +1,5 @@
 -- A text is refused for one fault at most, and for some fault where anything is wrong with it.
-use Rattle.std.proofs.Common.{◌≡◌, ◌⊎◌, ⊎_elim, ℕ, zero, suc, ◌+◌, ◌*◌, ◌<◌, ◌≤◌, ◌==◌, if◌then◌else◌, List, [], ◌++◌, take, refl, sym, ◌∙◌, arith, append-nil}
+use Rattle.std.proofs.Common.{◌≡◌, ◌⊎◌, ⊎_elim, ℕ, zero, suc, ◌+◌, ◌*◌, ◌<◌, ◌≤◌, ◌==◌, if◌then◌else◌, List, [], ◌++◌, take, sym, ◌∙◌, arith, append-nil}
 use Rattle.std.proofs.lemmas.Bool.{cases_lt}
 use Rattle.cep_base.specs.declared.place.Pos.{Pos}
 use Rattle.cep_lex.specs.Places.{IsPlaceAfter}
@@ -23,46 +23,10 @@ numbered n =
     (if n == 17 then Ungrounded else (if n == 18 then OverLimit else TooLong)))))))))))))))))
 
 by_number : (reason : Reason) → numbered (number reason) ≡ reason
-by_number BadByte = refl
-by_number NameLong = refl
-by_number Unexpected = refl
-by_number Nested = refl
-by_number Twice = refl
-by_number Unknown = refl
-by_number WrongKind = refl
-by_number WrongArity = refl
-by_number TypeClash = refl
-by_number VarInContext = refl
-by_number BwdInState = refl
-by_number LinearInClause = refl
-by_number BadQui = refl
-by_number NoTrace = refl
-by_number TwoTraces = refl
-by_number Unbound = refl
-by_number Ungrounded = refl
-by_number OverLimit = refl
-by_number TooLong = refl
+by_number reason = grind arith
 
 number_within : (reason : Reason) → number reason ≤ 19
-number_within BadByte = omega arith
-number_within NameLong = omega arith
-number_within Unexpected = omega arith
-number_within Nested = omega arith
-number_within Twice = omega arith
-number_within Unknown = omega arith
-number_within WrongKind = omega arith
-number_within WrongArity = omega arith
-number_within TypeClash = omega arith
-number_within VarInContext = omega arith
-number_within BwdInState = omega arith
-number_within LinearInClause = omega arith
-number_within BadQui = omega arith
-number_within NoTrace = omega arith
-number_within TwoTraces = omega arith
-number_within Unbound = omega arith
-number_within Ungrounded = omega arith
-number_within OverLimit = omega arith
-number_within TooLong = omega arith
+number_within reason = grind arith
 
 -- ---- the order of faults, on numbers
 
@@ -82,9 +46,7 @@ same_fault : (one other : Fault) → one.at ≡ other.at → number one.reason �
 same_fault one other at numbers = grind (arith, by_number, one.reason, other.reason)
 
 pub one_refusal : (text : List ℕ) (one other : Fault) → IsRefusedFor text one → IsRefusedFor text other → one ≡ other
-one_refusal text one other is is' =
-    let same = one_standing (phase one.reason) (phase other.reason) one.at other.at (number one.reason) (number other.reason) (is.first other is'.holds) (is'.first one is.holds) in
-    same_fault one other same.0 same.1
+one_refusal text one other is is' = grind (arith, one_standing (phase one.reason) (phase other.reason) one.at other.at (number one.reason) (number other.reason) (is.first other is'.holds) (is'.first one is.holds))
 
 -- ---- one line and column
 
@@ -98,10 +60,7 @@ one_place before one other is is' =
     λ i. record { line = same.0 i; col = same.1 i }
 
 pub one_telling : (text : List ℕ) (fault : Fault) (one other : Refusal) → Tells text fault one → Tells text fault other → one ≡ other
-one_telling text fault one other is is' =
-    let pos = one_place (take fault.at text) one.pos other.pos is.pos is'.pos in
-    let reason : one.reason ≡ other.reason = is.reason ∙ sym is'.reason in
-    λ i. record { pos = pos i; reason = reason i }
+one_telling text fault one other is is' = grind (arith, one_place (take fault.at text) one.pos other.pos is.pos is'.pos, is.reason ∙ sym is'.reason)
 
 -- ---- where anything is wrong, something is the first
 

@@ -1,5 +1,5 @@
 -- Places further on in a text have a greater line, or the same one and no lesser column.
-use Rattle.std.proofs.Common.{◌≡◌, ◌≢◌, ⊎_elim, ℕ, zero, suc, ◌+◌, ◌-◌, ◌<◌, ◌≤◌, Bool, true, false, List, [], ◌∷◌, ◌++◌, length, take, refl, sym, ap, subst, ◌∙◌, arith, append_assoc, length-append}
+use Rattle.std.proofs.Common.{◌≡◌, ◌≢◌, ⊎_elim, ℕ, suc, ◌+◌, ◌-◌, ◌<◌, ◌≤◌, Bool, List, [], ◌∷◌, ◌++◌, length, take, refl, sym, ap, subst, ◌∙◌, arith, append_assoc, length-append}
 use Rattle.std.proofs.lemmas.List.Sums.{sum_by-append, sum_by-cons}
 use Rattle.std.proofs.lemmas.Bool.{eqb-false}
 use Rattle.std.specs.Prelude.{◌==◌, sum_by, cond}
@@ -66,14 +66,11 @@ abbrev one_break : ℕ → ℕ
 one_break byte = cond (byte == 10) 1 0
 
 not_break : (byte : ℕ) (b : Bool) → (byte == 10) ≡ b → one_break byte ≡ 0 → byte ≢ 10
-not_break byte true e zero_ = λ is. let one : one_break byte ≡ 1 = ap (λ (b : Bool). cond b 1 0) e in absurd (omega (arith, one, zero_))
-not_break byte false e zero_ = eqb-false byte 10 e
+not_break byte b e zero_ = grind (arith, one_break, eqb-false)
 
 no_breaks : (bytes : List ℕ) → sum_by one_break bytes ≡ 0 → IsUnbroken bytes
 no_breaks [] none = tt
-no_breaks (byte ∷ bytes) none =
-    let step = sum_by-cons one_break byte bytes in
-    (not_break byte (byte == 10) refl (omega (arith, none, step)), no_breaks bytes (omega (arith, none, step)))
+no_breaks (byte ∷ bytes) none = (not_break byte (byte == 10) refl (omega (arith, none, (sum_by-cons one_break byte bytes))), no_breaks bytes (omega (arith, none, (sum_by-cons one_break byte bytes))))
 
 -- a place with more bytes before it does not stand before one with fewer
 pub later_place : (before mid : List ℕ) (pos pos' : Pos) → IsPlaceAfter before pos → IsPlaceAfter (before ++ mid) pos' → ¬ (StandsBefore pos' pos)
@@ -95,21 +92,15 @@ later_place before mid pos pos' is is' earlier =
     earlier
 
 take_nothing : (n : ℕ) → take {A = ℕ} n [] ≡ []
-take_nothing zero = refl
-take_nothing (suc n) = refl
+take_nothing n = grind arith
 
 take_more : (at further : ℕ) (text : List ℕ) → (mid : List ℕ) × (take (at + further) text ≡ take at text ++ mid)
-take_more zero further text = (take further text, ap (λ n. take n text) (let e : 0 + further ≡ further = omega arith in e))
-take_more (suc at) further [] = ([], take_nothing (suc at + further))
 take_more (suc at) further (byte ∷ text) =
     let rest = take_more at further text in
     let e : suc at + further ≡ suc (at + further) = omega arith in
     (rest.0, ap (λ n. take n (byte ∷ text)) e ∙ ap (λ bytes. byte ∷ bytes) rest.1)
+take_more at further text = grind (arith, take_nothing)
 
 -- so places stand in the order of their bytes
 pub places_rise : (text : List ℕ) (at at' : ℕ) (pos pos' : Pos) → at ≤ at' → IsPlaceAfter (take at text) pos → IsPlaceAfter (take at' text) pos' → ¬ (StandsBefore pos' pos)
-places_rise text at at' pos pos' less is is' =
-    let further = at' - at in
-    let e : at' ≡ at + (at' - at) = omega (arith, less) in
-    let more_ = take_more at (at' - at) text in
-    later_place (take at text) more_.0 pos pos' is (subst (λ bytes. IsPlaceAfter bytes pos') (ap (λ n. take n text) e ∙ more_.1) is')
+places_rise text at at' pos pos' less is is' = later_place (take at text) (take_more at (at' - at) text).0 pos pos' is (subst (λ bytes. IsPlaceAfter bytes pos') (ap (λ n. take n text) (omega (arith, less)) ∙ (take_more at (at' - at) text).1) is')

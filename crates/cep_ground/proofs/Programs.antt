@@ -1,5 +1,5 @@
 -- What a text in order declares is a program.
-use Rattle.std.proofs.Common.{◌≡◌, ℕ, ◌<◌, ◌≤◌, ◌^◌, Bool, true, false, not, ◌&&◌, if◌then◌else◌, nat_le, List, [], ◌∷◌, ◌++◌, length, map, filter, refl, sym, ap, subst, ◌∙◌, arith, Contains, length-append}
+use Rattle.std.proofs.Common.{◌≡◌, ℕ, ◌<◌, ◌≤◌, ◌^◌, Bool, not, ◌&&◌, if◌then◌else◌, nat_le, List, [], ◌∷◌, ◌++◌, length, map, filter, refl, sym, ap, subst, ◌∙◌, arith, Contains, length-append}
 use Rattle.std.proofs.lemmas.Bool.{leb-true}
 use Rattle.std.proofs.lemmas.List.{length-map}
 use Rattle.std.specs.Prelude.{Option, Some, None, IfSome}
@@ -61,8 +61,7 @@ map_same f g h (x ∷ xs) same = let here = same x in let rest = map_same f g h 
 
 -- a number of turns that is said is one that a program may ask for
 turns_few : (digits : Bool) (turns : ℕ) → IfSome (let said : Option ℕ = if digits && (nat_le 1 turns && nat_le turns MOST_TURNS) then Some turns else None in said) IsTurnLimit
-turns_few false turns = tt
-turns_few true turns = grind (arith, leb-true)
+turns_few digits turns = grind (arith, leb-true)
 
 -- where each makes one at most, there are not more than of them
 flat_few : {X Y : Type 0} (f : X → List Y) (xs : List X) → ((x : X) → length (f x) ≤ 1) → length (flat_map f xs) ≤ length xs
@@ -70,12 +69,10 @@ flat_few f [] one = omega arith
 flat_few f (x ∷ xs) one = grind (arith, length-append, flat_few f xs one)
 
 one_sort : (item_ : RawItem) → length (declares item_).sorts ≤ 1
-one_sort (item.Sort name) = omega arith
-one_sort _ = omega arith
+one_sort item_ = grind arith
 
 one_stage : (item_ : RawItem) → length (declares item_).stages ≤ 1
-one_stage (item.Stage name rules) = omega arith
-one_stage _ = omega arith
+one_stage item_ = grind arith
 
 -- the same of numbers that are sorts
 sorts_in_range : (source : Source) (spans : List Span) (most : ℕ) → AllByRecursion (λ name. number_of source space.Sorts name < most) (map (said source) spans) → AllByRecursion (λ sort. sort < most) (sorts_said source spans)
@@ -87,23 +84,18 @@ module _ (source : Source) (clean : IsClean source) (made : AtomsMade source) (i
   file_few = let tokens = tokens_few source clean.is_source in let s = clean.short in omega (arith, few, tokens, s)
 
   nodes_of_scope : (atoms : List RawAtom) → AreHere source clean made atoms → length (raw_nodes atoms) < 2 ^ 63
-  nodes_of_scope atoms are =
-      let nodes = nodes_few atoms (λ raw there. let s = nodes_short source clean made raw (are.here raw there) in omega (arith, s)) in
-      let count = are.few in
-      omega (arith, nodes, count)
+  nodes_of_scope atoms are = omega (arith, nodes_few atoms (λ raw there. let s = nodes_short source clean made raw (are.here raw there) in omega (arith, s)), are.few)
 
   rule_vars_few : (item_ : RuleItem) → Contains (rules_of source) item_ → length (names_of source (rule_scope item_)) ≤ 32
   rule_vars_few item_ there =
       let size = length-map (variables_of source (rule_scope item_)) (λ (o : Occurrence). o.name) in
-      let same = ap length (bound_vars source item_ (all_at (λ (rule : RuleItem). unbound_of source rule ≡ []) (rules_of source) item_ bound there)) in
       let most = at_most (variables_of source (atoms_of item_.raw.left)) 32 (λ o found. clean.names (wrong OverLimit o.at.from) (over o.at.from (overs.rule_variable item_ o there found refl) refl)) in
-      omega (arith, size, same, most)
+      omega (arith, size, (ap length (bound_vars source item_ (all_at (λ (rule : RuleItem). unbound_of source rule ≡ []) (rules_of source) item_ bound there))), most)
 
   clause_vars_few : (item_ : ClauseItem) → Contains (clauses_of source) item_ → length (names_of source (clause_scope item_)) ≤ 32
   clause_vars_few item_ there =
-      let size = length-map (variables_of source (clause_scope item_)) (λ (o : Occurrence). o.name) in
       let most = at_most (variables_of source (clause_scope item_)) 32 (λ o found. clean.names (wrong OverLimit o.at.from) (over o.at.from (overs.clause_variable item_ o there found refl) refl)) in
-      omega (arith, size, most)
+      omega (arith, (length-map (variables_of source (clause_scope item_)) (λ (o : Occurrence). o.name)), most)
 
   small_atom : (atom : AtomTree) → IsJudged source clean made atom → IsSmallPattern atom
   small_atom atom judged = judged.small
@@ -153,8 +145,7 @@ module _ (source : Source) (clean : IsClean source) (made : AtomsMade source) (i
   }
 
   turns_by : (limit : Option Span) → IfSome (option_and_then (turns_said source.text) limit) IsTurnLimit
-  turns_by None = tt
-  turns_by (Some number) = search turns_few
+  turns_by limit = grind (arith, turns_few)
 
   -- whose modes can be decided
   pub is_in_order : (parts : Parts) → AreParts source parts → AreInOrder parts

@@ -20,11 +20,10 @@ use Rattle.cep_refusal.specs.declared.fault.Fault.{Fault}
 use Rattle.cep_refusal.specs.declared.reason.Reason.{Reason}
 use Rattle.cep_refusal.specs.declared.reason.Reason.TheVariants.{BadByte, NameLong, Unexpected, Nested, Unbound, Ungrounded, TooLong}
 use Rattle.cep_source.specs.Items.{Source, RuleItem, rules_of}
-use Rattle.cep_source.specs.Spaces.IsTwice.{again}
 use Rattle.cep_source.specs.Variables.{Occurrence}
 use Rattle.cep_refusal.specs.First.{IsFirst, IsNoLater, wrong, IsToldFirst}
-use Rattle.cep_faults.specs.Misnamed.{Misnamed, Misnamed as misnamed_}
-use Rattle.cep_types.specs.Sites.{Mistyped, Mistyped as mistyped_}
+use Rattle.cep_faults.specs.Misnamed.{Misnamed}
+use Rattle.cep_types.specs.Sites.{Mistyped}
 use Rattle.cep_infer.specs.Shapes.{IsSource}
 use Rattle.cep_infer.specs.Meaning.{AreParts}
 use Rattle.cep_infer.specs.Places.{unbound_of}
@@ -33,7 +32,7 @@ use Rattle.cep_ground.specs.Refusals.{IsUngroundedIn, IsWrong, IsRefusedFor}
 use Rattle.cep_refusal.specs.Reasons.{phase}
 use Rattle.cep_ground.specs.Refusals.IsWrong.{too_long, bad_byte, name_long, unexpected, nested, misnamed, mistyped, unbound, ungrounded}
 use Rattle.cep_ground.proofs.OneProgram.{LexedOnce, FileOnce, tokens_once, source_once}
-use Rattle.cep_base.proofs.Elements.{contains_none, all_at}
+use Rattle.cep_base.proofs.Elements.{all_at}
 use Rattle.cep_ground.proofs.Once.{parts_once}
 
 -- what the law of parsed tokens says
@@ -117,12 +116,10 @@ module _ (lexed : LexedOnce) (text : List ℕ) where
         let e = parsed text tokens (Err (parse.Unexpected at)) (Err (parse.Unexpected at')) is (subst (λ ts. IsUnexpected (symbols_of text ts) (length text) at') (tokens_same tokens' tokens are' are) is') in cc
 
     one_nested : (tokens tokens' : List Token) (at at' : ℕ) → AreTokens text tokens → AreTokens text tokens' → IsNested (symbols_of text tokens) at → IsNested (symbols_of text tokens') at' → at ≡ at'
-    one_nested tokens tokens' at at' are are' is is' =
-        let e = parsed text tokens (Err (parse.Nested at)) (Err (parse.Nested at')) is (subst (λ ts. IsNested (symbols_of text ts) at') (tokens_same tokens' tokens are' are) is') in cc
+    one_nested tokens tokens' at at' are are' is is' = grind (arith, parsed text tokens (Err (parse.Nested at)) (Err (parse.Nested at')) is (subst (λ ts. IsNested (symbols_of text ts) at') (tokens_same tokens' tokens are' are) is'))
 
     not_both_parse : (tokens tokens' : List Token) (at at' : ℕ) → AreTokens text tokens → AreTokens text tokens' → IsUnexpected (symbols_of text tokens) (length text) at → IsNested (symbols_of text tokens') at' → ⊥
-    not_both_parse tokens tokens' at at' are are' is is' =
-        let e = parsed text tokens (Err (parse.Unexpected at)) (Err (parse.Nested at')) is (subst (λ ts. IsNested (symbols_of text ts) at') (tokens_same tokens' tokens are' are) is') in absurd cc
+    not_both_parse tokens tokens' at at' are are' is is' = grind (arith, parsed text tokens (Err (parse.Unexpected at)) (Err (parse.Nested at')) is (subst (λ ts. IsNested (symbols_of text ts) at') (tokens_same tokens' tokens are' are) is'))
 
     pub refused_unexpected : (tokens : List Token) (at : ℕ) → length text ≤ MOST_TEXT → AreTokens text tokens → IsUnexpected (symbols_of text tokens) (length text) at → IsRefusedFor text (wrong Unexpected at)
     refused_unexpected tokens at short are bad = record { holds = unexpected tokens at short are bad refl; first = first }
@@ -167,22 +164,10 @@ module _ (lexed : LexedOnce) (text : List ℕ) where
 
       -- names are judged in one phase, types in the next
       mistyped_phase : (fault : Fault) → Mistyped source fault → phase fault.reason ≡ 5
-      mistyped_phase fault (mistyped_.constructor atoms site con scope there app found differ is) = ap (λ (f : Fault). phase f.reason) is
-      mistyped_phase fault (mistyped_.variable atoms site first scope there var type_is differ is) = ap (λ (f : Fault). phase f.reason) is
+      mistyped_phase fault given = grind arith
 
       misnamed_phase : (fault : Fault) → Misnamed source fault → phase fault.reason ≡ 4
-      misnamed_phase fault (misnamed_.twice (again space before after entry cut earlier is)) = ap (λ (f : Fault). phase f.reason) is
-      misnamed_phase fault (misnamed_.unknown space name used nowhere is) = ap (λ (f : Fault). phase f.reason) is
-      misnamed_phase fault (misnamed_.wrong_kind space other name used outside inside is) = ap (λ (f : Fault). phase f.reason) is
-      misnamed_phase fault (misnamed_.wrong_arity atom pred there found differ is) = ap (λ (f : Fault). phase f.reason) is
-      misnamed_phase fault (misnamed_.wrong_term_arity node con there app found differ is) = ap (λ (f : Fault). phase f.reason) is
-      misnamed_phase fault (misnamed_.variable_in_state node there open_ is) = ap (λ (f : Fault). phase f.reason) is
-      misnamed_phase fault (misnamed_.backward_in_state atom there back is) = ap (λ (f : Fault). phase f.reason) is
-      misnamed_phase fault (misnamed_.linear_in_clause atom its there kind forward is) = ap (λ (f : Fault). phase f.reason) is
-      misnamed_phase fault (misnamed_.bad_qui rule there home not_qui is) = ap (λ (f : Fault). phase f.reason) is
-      misnamed_phase fault (misnamed_.no_trace none is) = ap (λ (f : Fault). phase f.reason) is
-      misnamed_phase fault (misnamed_.two_traces first trace rest all there is) = ap (λ (f : Fault). phase f.reason) is
-      misnamed_phase fault (misnamed_.over at over_ is) = ap (λ (f : Fault). phase f.reason) is
+      misnamed_phase fault given = grind arith
 
       pub refused_misnamed : (fault : Fault) → IsFirst (Misnamed source) fault → IsRefusedFor text fault
       refused_misnamed fault bad = record { holds = misnamed source text_is short is_source bad.holds; first = first }
@@ -197,14 +182,9 @@ module _ (lexed : LexedOnce) (text : List ℕ) where
               let here : Misnamed source other = subst (λ s. Misnamed s other) (same_source source' text_is' is_source') bad' in
               inr (misnamed_phase fault bad.holds ∙ sym (misnamed_phase other here), bad.first other here)
           first other (mistyped source' text_is' short' is_source' bad') =
-              let here : Mistyped source other = subst (λ s. Mistyped s other) (same_source source' text_is' is_source') bad' in
-              let one = misnamed_phase fault bad.holds in
-              let next = mistyped_phase other here in
-              inl (omega (arith, one, next))
+              inl (omega (arith, (misnamed_phase fault bad.holds), (mistyped_phase other (subst (λ s. Mistyped s other) (same_source source' text_is' is_source') bad'))))
           first other (unbound source' rule o text_is' short' is_source' there inside is) =
-              let one = misnamed_phase fault bad.holds in
-              let next : phase other.reason ≡ 6 = ap (λ (f : Fault). phase f.reason) is in
-              inl (omega (arith, one, next))
+              inl (omega (arith, (misnamed_phase fault bad.holds), (ap (λ (f : Fault). phase f.reason) is)))
           first other (ungrounded source' at text_is' clean bad' is) = absurd (clean.names fault (subst (λ s. Misnamed s fault) (sym (same_source source' text_is' clean.is_source)) bad.holds))
 
       pub refused_mistyped : (fault : Fault) → ((other : Fault) → ¬ (Misnamed source other)) → IsFirst (Mistyped source) fault → IsRefusedFor text fault
@@ -221,16 +201,12 @@ module _ (lexed : LexedOnce) (text : List ℕ) where
               let here : Mistyped source other = subst (λ s. Mistyped s other) (same_source source' text_is' is_source') bad' in
               inr (mistyped_phase fault bad.holds ∙ sym (mistyped_phase other here), bad.first other here)
           first other (unbound source' rule o text_is' short' is_source' there inside is) =
-              let one = mistyped_phase fault bad.holds in
-              let next : phase other.reason ≡ 6 = ap (λ (f : Fault). phase f.reason) is in
-              inl (omega (arith, one, next))
+              inl (omega (arith, (mistyped_phase fault bad.holds), (ap (λ (f : Fault). phase f.reason) is)))
           first other (ungrounded source' at text_is' clean bad' is) = absurd (clean.types fault (subst (λ s. Mistyped s fault) (sym (same_source source' text_is' clean.is_source)) bad.holds))
 
       -- where each variable is bound, none is unbound
       none_unbound : (other : Source) (rule : RuleItem) (o : Occurrence) → other ≡ source → IsBound source → Contains (rules_of other) rule → Contains (unbound_of other rule) o → ⊥
-      none_unbound other rule o same bound there inside =
-          let all = all_at (λ (item : RuleItem). unbound_of source item ≡ []) (rules_of source) rule bound (subst (λ s. Contains (rules_of s) rule) same there) in
-          contains_none o (subst (λ os. Contains os o) all (subst (λ s. Contains (unbound_of s rule) o) same inside))
+      none_unbound other rule o same bound there inside = grind (arith, all_at (λ (item : RuleItem). unbound_of source item ≡ []) (rules_of source) rule bound (subst (λ s. Contains (rules_of s) rule) same there))
 
       no_later : (reason : Reason) (at at' : ℕ) → at ≤ at' → IsNoLater (wrong reason at) (wrong reason at')
       no_later reason at at' less = grind (arith, le_cases)
@@ -253,8 +229,7 @@ module _ (lexed : LexedOnce) (text : List ℕ) where
               let less = least rule' o' (subst (λ s. Contains (rules_of s) rule') same there') (subst (λ s. Contains (unbound_of s rule') o') same inside') in
               subst (IsToldFirst (wrong Unbound o.at.from)) (sym is) (inr (refl, no_later Unbound o.at.from o'.at.from less))
           first other (ungrounded source' at text_is' clean' bad' is) =
-              let next : phase other.reason ≡ 7 = ap (λ (f : Fault). phase f.reason) is in
-              inl (omega (arith, next))
+              inl (omega (arith, (ap (λ (f : Fault). phase f.reason) is)))
 
       -- where all rules are grounded, no premise is ungrounded
       none_ungrounded : (parts : Parts) → AreParts source parts → AllByRecursion (IsGrounded parts.clauses) parts.rules → (other : Source) → other ≡ source → (at : ℕ) → IsUngroundedIn other at → ⊥

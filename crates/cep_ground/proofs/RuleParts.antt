@@ -44,6 +44,7 @@ use Rattle.cep_ground.proofs.HeadLaws.{terms_nodes}
 use Rattle.cep_ground.proofs.Wanted.{nodes_at, wanted_both}
 use Rattle.cep_ground.proofs.Scopes.{IsHere, scope_nodes, typed_atoms, typed_premises}
 use Rattle.cep_ground.proofs.RuleScopes.{AtomsMade, may_be_state, may_be_backward, words, short, nodes_short, left_here, right_at, right_here, clause_at, clause_here, rule_here, kind_known}
+pub use Rattle.cep_base.proofs.Lists.{all_weaker as all_follow}
 
 -- the nodes of an atom are as many as are written
 heads_size : (source : Source) (vars : List (List ℕ)) (blanks : ℕ) (nodes : List RawNode) → length (heads_from source vars blanks nodes) ≡ length nodes
@@ -58,11 +59,6 @@ pub all_both : {X : Type 0} (P Q : X → Type 0) (xs : List X) → AllByRecursio
 all_both P Q [] one other = tt
 all_both P Q (x ∷ xs) one other = ((one.0, other.0), all_both P Q xs one.1 other.1)
 
--- what follows from what holds of all holds of all
-pub all_follow : {X : Type 0} (P Q : X → Type 0) (xs : List X) → ((x : X) → P x → Q x) → AllByRecursion P xs → AllByRecursion Q xs
-all_follow P Q [] follows all = tt
-all_follow P Q (x ∷ xs) follows all = (follows x all.0, all_follow P Q xs follows all.1)
-
 -- The predicate of an atom is this one.
 pub record IsOfPred (source : Source) (atom : AtomTree) (back : Bool) : Type 0 where
   pub pred : PredItem
@@ -72,8 +68,7 @@ pub record IsOfPred (source : Source) (atom : AtomTree) (back : Bool) : Type 0 w
   pub fact_is : is_fact_by source atom ≡ is_of_facts pred.kind
 
 not_true : (b : Bool) → not b ≡ true → b ≡ false
-not_true true e = absurd cc
-not_true false e = refl
+not_true b e = grind arith
 
 module _ (source : Source) (clean : IsClean source) (atoms_made : AtomsMade source) where
   pub pred_at : (vars : List (List ℕ)) (blanks : ℕ) (raw : RawAtom) (atom : AtomTree) (here : IsHere source raw) → IsAtomBy source vars blanks raw atom → IsOfPred source atom (is_backward (pred_known source raw clean.names here.there).pred.kind)
@@ -107,24 +102,20 @@ module _ (source : Source) (clean : IsClean source) (atoms_made : AtomsMade sour
   judged_at vars blanks raw atom here by = grind (arith, pred_known source raw clean.names here.there, pred_at vars blanks raw atom here by, atom_size source vars blanks raw atom by, nodes_short source clean atoms_made raw here, clean.names, here.there)
 
   pub judged_premises : (vars : List (List ℕ)) (blanks : ℕ) (elems : List RawElem) (list : List PremiseTree) → ((raw : RawAtom) → Contains (atoms_of elems) raw → IsHere source raw) → ArePremisesBy source vars blanks elems list → AllByRecursion (λ p. IsJudged p.atom) list
-  judged_premises vars blanks [] [] here by = tt
-  judged_premises vars blanks [] (p ∷ list) here by = absurd by
   judged_premises vars blanks (elem.Qui span ∷ elems) list here by = judged_premises vars blanks elems list here by
   judged_premises vars blanks (elem.Stage span ∷ elems) list here by = judged_premises vars blanks elems list here by
-  judged_premises vars blanks (elem.Atom kept raw ∷ elems) [] here by = absurd by
   judged_premises vars blanks (elem.Atom kept raw ∷ elems) (p ∷ list) here by = (
     judged_at vars blanks raw p.atom (here raw (contains_first raw (atoms_of elems))) by.1,
     judged_premises vars (blanks_after blanks raw.nodes) elems list (λ other there. here other (contains_behind raw (atoms_of elems) other there)) by.2,
   )
+  judged_premises vars blanks elems list here by = grind arith
 
   pub judged_atoms : (vars : List (List ℕ)) (blanks : ℕ) (raws : List RawAtom) (list : List AtomTree) → ((raw : RawAtom) → Contains raws raw → IsHere source raw) → AreAtomsBy source vars blanks raws list → AllByRecursion IsJudged list
-  judged_atoms vars blanks [] [] here by = tt
-  judged_atoms vars blanks [] (atom ∷ list) here by = absurd by
-  judged_atoms vars blanks (raw ∷ raws) [] here by = absurd by
   judged_atoms vars blanks (raw ∷ raws) (atom ∷ list) here by = (
     judged_at vars blanks raw atom (here raw (contains_first raw raws)) by.0,
     judged_atoms vars (blanks_after blanks raw.nodes) raws list (λ other there. here other (contains_behind raw raws other there)) by.1,
   )
+  judged_atoms vars blanks raws list here by = grind arith
 
   of_state : (atom : AtomTree) (j : IsJudged atom) → is_back source atom ≡ false → HasStatePredicate (signature_of source) atom
   of_state atom j linear = grind (arith, j.of_pred)
@@ -155,45 +146,36 @@ module _ (source : Source) (clean : IsClean source) (atoms_made : AtomsMade sour
 
   -- the premises of a rule are divided as they are counted
   count_step : (b : Bool) (x : PremiseTree) (y : RawAtom) (xs : List PremiseTree) (ys : List RawAtom) (p : Bool) (q : Bool) → p ≡ q → length xs ≡ length ys → length (cond p (x ∷ xs) xs) ≡ length (cond q (y ∷ ys) ys)
-  count_step b x y xs ys true true same size = ap suc size
-  count_step b x y xs ys true false same size = absurd cc
-  count_step b x y xs ys false true same size = absurd cc
-  count_step b x y xs ys false false same size = size
+  count_step b x y xs ys p q same size = grind arith
 
   pub linear_count : (vars : List (List ℕ)) (blanks : ℕ) (elems : List RawElem) (list : List PremiseTree) → ((raw : RawAtom) → Contains (atoms_of elems) raw → IsHere source raw) → ArePremisesBy source vars blanks elems list
       → length (filter (λ p. not (is_back source p.atom)) list) ≡ length (filter (λ atom. may_be_state (kind_of source atom)) (atoms_of elems))
-  linear_count vars blanks [] [] here by = refl
-  linear_count vars blanks [] (p ∷ list) here by = absurd by
   linear_count vars blanks (elem.Qui span ∷ elems) list here by = linear_count vars blanks elems list here by
   linear_count vars blanks (elem.Stage span ∷ elems) list here by = linear_count vars blanks elems list here by
-  linear_count vars blanks (elem.Atom kept raw ∷ elems) [] here by = absurd by
   linear_count vars blanks (elem.Atom kept raw ∷ elems) (p ∷ list) here by =
       let is = here raw (contains_first raw (atoms_of elems)) in
       let known = kind_known source clean atoms_made raw is in
       let judged = (pred_at vars blanks raw p.atom is by.1).judged in
       count_step true p raw _ _ (not (is_back source p.atom)) (may_be_state (kind_of source raw)) (ap not judged ∙ ap may_be_state (sym known))
       (linear_count vars (blanks_after blanks raw.nodes) elems list (λ other there. here other (contains_behind raw (atoms_of elems) other there)) by.2)
+  linear_count vars blanks elems list here by = grind arith
 
   pub back_count : (vars : List (List ℕ)) (blanks : ℕ) (elems : List RawElem) (list : List PremiseTree) → ((raw : RawAtom) → Contains (atoms_of elems) raw → IsHere source raw) → ArePremisesBy source vars blanks elems list
       → length (filter (λ p. is_back source p.atom) list) ≡ length (filter (λ atom. may_be_backward (kind_of source atom)) (atoms_of elems))
-  back_count vars blanks [] [] here by = refl
-  back_count vars blanks [] (p ∷ list) here by = absurd by
   back_count vars blanks (elem.Qui span ∷ elems) list here by = back_count vars blanks elems list here by
   back_count vars blanks (elem.Stage span ∷ elems) list here by = back_count vars blanks elems list here by
-  back_count vars blanks (elem.Atom kept raw ∷ elems) [] here by = absurd by
   back_count vars blanks (elem.Atom kept raw ∷ elems) (p ∷ list) here by =
       let is = here raw (contains_first raw (atoms_of elems)) in
       let known = kind_known source clean atoms_made raw is in
       let judged = (pred_at vars blanks raw p.atom is by.1).judged in
       count_step true p raw _ _ (is_back source p.atom) (may_be_backward (kind_of source raw)) (judged ∙ ap may_be_backward (sym known))
       (back_count vars (blanks_after blanks raw.nodes) elems list (λ other there. here other (contains_behind raw (atoms_of elems) other there)) by.2)
+  back_count vars blanks elems list here by = grind arith
 
   -- as many atoms are made as are written
   pub atoms_count : (vars : List (List ℕ)) (blanks : ℕ) (raws : List RawAtom) (list : List AtomTree) → AreAtomsBy source vars blanks raws list → length list ≡ length raws
-  atoms_count vars blanks [] [] by = refl
-  atoms_count vars blanks [] (atom ∷ list) by = absurd by
-  atoms_count vars blanks (raw ∷ raws) [] by = absurd by
   atoms_count vars blanks (raw ∷ raws) (atom ∷ list) by = ap suc (atoms_count vars (blanks_after blanks raw.nodes) raws list by.1)
+  atoms_count vars blanks raws list by = grind arith
 
   -- what becomes part of a state is of a predicate that states may have
   pub is_of_state : (raw : RawAtom) (here : IsHere source raw) → Contains (made_atoms source ++ state_atoms source) raw → is_backward (pred_known source raw clean.names here.there).pred.kind ≡ false
@@ -208,21 +190,16 @@ module _ (source : Source) (clean : IsClean source) (atoms_made : AtomsMade sour
 
   -- so are the atoms of a right side
   pub right_of_state : (vars : List (List ℕ)) (blanks : ℕ) (raws : List RawAtom) (list : List AtomTree) → ((raw : RawAtom) → Contains raws raw → Contains (made_atoms source) raw) → ((raw : RawAtom) → Contains raws raw → IsHere source raw) → AreAtomsBy source vars blanks raws list → AllByRecursion (HasStatePredicate (signature_of source)) list
-  right_of_state vars blanks [] [] at here by = tt
-  right_of_state vars blanks [] (atom ∷ list) at here by = absurd by
-  right_of_state vars blanks (raw ∷ raws) [] at here by = absurd by
   right_of_state vars blanks (raw ∷ raws) (atom ∷ list) at here by =
       let is = here raw (contains_first raw raws) in
       let linear = is_of_state raw is (contains_left (made_atoms source) (state_atoms source) raw (at raw (contains_first raw raws))) in (
         of_state atom (judged_at vars blanks raw atom is by.0) ((pred_at vars blanks raw atom is by.0).judged ∙ linear),
         right_of_state vars (blanks_after blanks raw.nodes) raws list (λ other there. at other (contains_behind raw raws other there)) (λ other there. here other (contains_behind raw raws other there)) by.1,
       )
+  right_of_state vars blanks raws list at here by = grind arith
 
   -- those of a clause are of backward ones
   pub clause_backward : (vars : List (List ℕ)) (blanks : ℕ) (raws : List RawAtom) (list : List AtomTree) → ((raw : RawAtom) → Contains raws raw → Contains (clause_atoms source) raw) → ((raw : RawAtom) → Contains raws raw → IsHere source raw) → AreAtomsBy source vars blanks raws list → AllByRecursion (IsBackward (signature_of source)) list
-  clause_backward vars blanks [] [] at here by = tt
-  clause_backward vars blanks [] (atom ∷ list) at here by = absurd by
-  clause_backward vars blanks (raw ∷ raws) [] at here by = absurd by
   clause_backward vars blanks (raw ∷ raws) (atom ∷ list) at here by =
       let is = here raw (contains_first raw raws) in
       let its = (pred_known source raw clean.names is.there).pred.kind in
@@ -234,19 +211,17 @@ module _ (source : Source) (clean : IsClean source) (atoms_made : AtomsMade sour
       not_false : (b : Bool) → (b ≡ false → ⊥) → b ≡ true
       not_false true never = refl
       not_false false never = absurd (never refl)
+  clause_backward vars blanks raws list at here by = grind arith
 
   -- a premise that is a fact is kept
   kept_by : (marked fact : Bool) → fact ≡ true → (marked || fact) ≡ true
-  kept_by true fact is = refl
-  kept_by false fact is = is
+  kept_by marked fact is = grind arith
 
   kept_facts : (vars : List (List ℕ)) (blanks : ℕ) (elems : List RawElem) (list : List PremiseTree) → ArePremisesBy source vars blanks elems list → AllByRecursion (λ p. is_fact (signature_of source) p.atom ≡ true → p.kept ≡ true) list
-  kept_facts vars blanks [] [] by = tt
-  kept_facts vars blanks [] (p ∷ list) by = absurd by
   kept_facts vars blanks (elem.Qui span ∷ elems) list by = kept_facts vars blanks elems list by
   kept_facts vars blanks (elem.Stage span ∷ elems) list by = kept_facts vars blanks elems list by
-  kept_facts vars blanks (elem.Atom kept raw ∷ elems) [] by = absurd by
   kept_facts vars blanks (elem.Atom kept raw ∷ elems) (p ∷ list) by = grind (arith, kept_by, fact_by, by.0, p.atom, kept_facts vars (blanks_after blanks raw.nodes) elems list by.2, raw.nodes, by.2)
+  kept_facts vars blanks elems list by = grind arith
 
   kinds_size : (scope : List RawAtom) → length (kinds_of source scope) ≡ length (names_of source scope)
   kinds_size scope = length-map (variables_of source scope) (λ (o : Occurrence). number_of source space.Sorts (unwrap_or (type_of source scope o.name) [])) ∙ sym (length-map (variables_of source scope) (λ (o : Occurrence). o.name))
@@ -272,7 +247,6 @@ module _ (source : Source) (clean : IsClean source) (atoms_made : AtomsMade sour
       (λ site inside. subst (λ sites. Contains sites site) (sym sites_both) (contains_right (sites_of source left) (sites_of source right) site inside))
       (λ wanted inside. subst (λ ws. Contains ws wanted) (sym wanted_all) (contains_right (wanted_from source 0 (sites_of source left)) _ wanted (subst (λ b. Contains (wanted_from source b (sites_of source right)) wanted) (sym after) inside)))
       (subst (λ vars. AreAtomsBy source vars (blanks_after 0 (raw_nodes left)) right rule.right) by.vars_are by.right_is) in
-      let typed : List AtomTree → Type 0 = λ list. AllByRecursion (IsTyped (signature_of source) (kinds_of source scope)) list in
       record {
         kinds = ap length by.kinds_are ∙ kinds_size scope ∙ ap length (sym by.vars_are);
         premises = subst (λ ks. AllByRecursion (IsTyped (signature_of source) ks) (needed_of rule)) (sym by.kinds_are)
@@ -309,6 +283,4 @@ module _ (source : Source) (clean : IsClean source) (atoms_made : AtomsMade sour
       }
 
   pub clause_divided : (item : ClauseItem) (clause : ClauseTree) → Contains (clauses_of source) item → IsClauseBy source item clause → IsDividedClause (signature_of source) clause
-  clause_divided item clause there by =
-      let all = clause_backward clause.vars 0 (clause_scope item) (clause.head ∷ clause.goals) (clause_at source clean atoms_made item there) (clause_here source clean atoms_made item there).here by.atoms_are in
-      record { head = all.0; goals = all.1 }
+  clause_divided item clause there by = grind (arith, clause_backward clause.vars 0 (clause_scope item) (clause.head ∷ clause.goals) (clause_at source clean atoms_made item there) (clause_here source clean atoms_made item there).here by.atoms_are)

@@ -1,11 +1,10 @@
 -- The atoms of rules and clauses: they stand in the file, and there are not too many.
-use Rattle.std.proofs.Common.{◌≡◌, ◌⊎◌, inl, inr, ⊎_elim, ◌<◌, ◌≤◌, ◌^◌, Bool, true, false, not, List, length, refl, sym, ap, subst, ◌∙◌, arith, Contains, length-append}
+use Rattle.std.proofs.Common.{◌≡◌, ◌⊎◌, ⊎_elim, ◌<◌, ◌≤◌, ◌^◌, Bool, true, false, not, List, length, refl, sym, ap, subst, ◌∙◌, arith, Contains, length-append}
 use Rattle.std.proofs.lemmas.List.{length-map}
 use Rattle.std.specs.Prelude.{Option, Some, unwrap_or}
 use Rattle.std.specs.Option.{option_map}
 use Rattle.std.specs.Char.{is_ascii_uppercase}
 use Rattle.cep_base.specs.declared.kind.PredKind.{PredKind}
-use Rattle.cep_base.specs.declared.kind.PredKind.TheVariants.{Linear, Back, Fact}
 use Rattle.cep_base.specs.Kinds.{is_backward}
 use Rattle.cep_parse.specs.declared.raw.RawKind.{RawKind}
 use Rattle.cep_parse.specs.declared.raw.RawKind.TheVariants as kind
@@ -54,11 +53,7 @@ module _ (source : Source) (clean : IsClean source) (made : AtomsMade source) wh
 
   -- the nodes of an atom are no more than the bytes of a text may be
   pub nodes_short : (raw : RawAtom) → IsHere source raw → length raw.nodes < 1048576
-  nodes_short raw here =
-      let few = (atom_of_tokens raw here.there).few in
-      let tokens = tokens_few source clean.is_source in
-      let short = clean.short in
-      omega (arith, few, tokens, short)
+  nodes_short raw here = omega (arith, (atom_of_tokens raw here.there).few, tokens_few source clean.is_source, clean.short)
 
   -- Atoms of a rule or a clause.
   pub record AreHere (atoms : List RawAtom) : Type 0 where
@@ -74,8 +69,7 @@ module _ (source : Source) (clean : IsClean source) (made : AtomsMade source) wh
       let whole = scope_nodes source clean.names clean.types atoms are.here in
       let node : Contains (raw_nodes atoms) site.node = subst (λ ns. Contains ns site.node) whole (contains_map (λ (s : Site). s.node) (sites_of source atoms) site there) in
       let from = flat_cases (λ (atom : RawAtom). atom.nodes) atoms site.node node in
-      let here = are.here from.from from.there in
-      let is = atom_of_tokens from.from here.there in
+      let is = atom_of_tokens from.from (are.here from.from from.there).there in
       node_word clean.is_source.tokens clean.is_source site.node.kind site.node.at refl (all_at (λ (n : RawNode). IsWrittenAt clean.is_source.tokens n.kind n.at) from.from.nodes site.node is.nodes from.inside) var
 
   -- the terms are not too many to be numbered
@@ -83,10 +77,7 @@ module _ (source : Source) (clean : IsClean source) (made : AtomsMade source) wh
   short atoms are =
       let whole = scope_nodes source clean.names clean.types atoms are.here in
       let size = length-map (sites_of source atoms) (λ (s : Site). s.node) in
-      let same : length (sites_of source atoms) ≡ length (raw_nodes atoms) = sym size ∙ ap length whole in
-      let nodes = nodes_few atoms (λ raw there. let s = nodes_short raw (are.here raw there) in omega (arith, s)) in
-      let few = are.few in
-      omega (arith, same, nodes, few)
+      omega (arith, (sym size ∙ ap length whole), (nodes_few atoms (λ raw there. let s = nodes_short raw (are.here raw there) in omega (arith, s))), are.few)
 
   -- the atoms of a left side stand in the file, and those of a right side
   pub left_here : (rule : RuleItem) → Contains (rules_of source) rule → (raw : RawAtom) → Contains (atoms_of rule.raw.left) raw → IsHere source raw
@@ -99,9 +90,7 @@ module _ (source : Source) (clean : IsClean source) (made : AtomsMade source) wh
   right_here rule there raw inside = here_at raw (made_here source raw (right_at rule there raw inside))
 
   either_kind : (its : PredKind) → (may_be_state (Some its) ≡ true) ⊎ (may_be_backward (Some its) ≡ true)
-  either_kind Linear = inl refl
-  either_kind Back = inr refl
-  either_kind Fact = inl refl
+  either_kind its = grind arith
 
   -- an atom's predicate is of some kind
   pub kind_known : (raw : RawAtom) (here : IsHere source raw) → kind_of source raw ≡ Some (pred_known source raw clean.names here.there).pred.kind
@@ -125,9 +114,7 @@ module _ (source : Source) (clean : IsClean source) (made : AtomsMade source) wh
       (λ raw inside.
       let here = left_here rule there raw inside in
       subst (λ found. (may_be_state found ≡ true) ⊎ (may_be_backward found ≡ true)) (sym (kind_known raw here)) (either_kind (pred_known source raw clean.names here.there).pred.kind)) in
-      let one = linear_few rule there in
-      let other = back_few rule there in
-      omega (arith, cover, one, other)
+      omega (arith, cover, (linear_few rule there), (back_few rule there))
 
   pub rule_here : (rule : RuleItem) → Contains (rules_of source) rule → AreHere (rule_scope rule)
   rule_here rule there = record {

@@ -67,10 +67,7 @@ module _ (source : Source) (names : AreNamesClean source) (types : (fault : Faul
 
   pub scope_nodes : (atoms : List RawAtom) → ((raw : RawAtom) → Contains atoms raw → IsHere source raw) → nodes_at (sites_of source atoms) ≡ raw_nodes atoms
   scope_nodes [] here = refl
-  scope_nodes (raw ∷ atoms) here =
-      nodes_both (sites_in source raw) (sites_of source atoms)
-      ∙ ap (λ ns. ns ++ nodes_at (sites_of source atoms)) (here_nodes raw (here raw (contains_first raw atoms)))
-      ∙ ap (λ ns. raw.nodes ++ ns) (scope_nodes atoms (λ other there. here other (contains_behind raw atoms other there)))
+  scope_nodes (raw ∷ atoms) here = rw (nodes_both (sites_in source raw) (sites_of source atoms), here_nodes raw (here raw (contains_first raw atoms)), scope_nodes atoms (λ other there. here other (contains_behind raw atoms other there)))
 
   module _ (atoms : List RawAtom) (scope : IsScope source atoms) (here : (raw : RawAtom) → Contains atoms raw → IsHere source raw) (words : AreWords source (sites_of source atoms)) (short : length (sites_of source atoms) < 2 ^ 64) where
     -- where a name is wanted it is found
@@ -93,8 +90,7 @@ module _ (source : Source) (names : AreNamesClean source) (types : (fault : Faul
         let found = wanted_found w there in
         let type_is : type_of source atoms w.name ≡ Some found.it.wants = ap (option_map (λ (v : Wanted). v.wants)) found.found_is in
         let said_is : type_of source atoms (said source site.node.at) ≡ Some found.it.wants = subst (λ n. type_of source atoms n ≡ Some found.it.wants) name type_is in
-        let same = no_clash site found.it.wants inside is said_is (bytes_eq found.it.wants site.wants) refl in
-        type_is ∙ ap Some (same ∙ sym wants)
+        type_is ∙ ap Some ((no_clash site found.it.wants inside is said_is (bytes_eq found.it.wants site.wants) refl) ∙ sym wants)
 
     -- the type that is wanted of a variable is the same wherever it occurs
     type_once : (w : Wanted) → Contains (wanted_from source 0 (sites_of source atoms)) w → type_of source atoms w.name ≡ Some w.wants
@@ -158,8 +154,6 @@ module _ (source : Source) (names : AreNamesClean source) (types : (fault : Faul
         → ((site : Site) → Contains (sites_from source types_ nodes) site → Contains (sites_of source atoms) site)
         → ((w : Wanted) → Contains (wanted_from source blanks (sites_from source types_ nodes)) w → Contains (wanted_from source 0 (sites_of source atoms)) w)
         → AreGood source (names_of source atoms) (kinds_of source atoms) (map (con_by source) (cons_of source)) blanks types_ nodes
-    good_nodes [] nodes blanks known sites_there wanted_there = tt
-    good_nodes (wants ∷ next) [] blanks known sites_there wanted_there = tt
     good_nodes (wants ∷ next) (first ∷ nodes) blanks known sites_there wanted_there =
         let further = sites_from source (node_types source first.kind first.at ++ next) nodes in
         let site : Site = record { node = first; wants = wants } in (
@@ -170,6 +164,7 @@ module _ (source : Source) (names : AreNamesClean source) (types : (fault : Faul
               (λ other inside. sites_there other (contains_behind site further other inside))
               (λ w inside. wanted_there w (contains_right (map (λ occurrence. record { name = occurrence.name; wants = wants }) (occurrence_at source blanks first.at first.kind)) (wanted_from source (blanks_behind blanks first.kind) further) w inside)),
         )
+    good_nodes types_ nodes blanks known sites_there wanted_there = tt
 
     -- an atom is well typed
     typed_atom : (raw : RawAtom) (atom : AtomTree) (blanks : ℕ) → IsHere source raw
@@ -200,9 +195,6 @@ module _ (source : Source) (names : AreNamesClean source) (types : (fault : Faul
         → ((w : Wanted) → Contains (wanted_from source blanks (sites_of source raws)) w → Contains (wanted_from source 0 (sites_of source atoms)) w)
         → AreAtomsBy source (names_of source atoms) blanks raws list
         → AllByRecursion (IsTyped (signature_of source) (kinds_of source atoms)) list
-    typed_atoms [] [] blanks here' sites_there wanted_there by = tt
-    typed_atoms [] (atom ∷ list) blanks here' sites_there wanted_there by = absurd by
-    typed_atoms (raw ∷ raws) [] blanks here' sites_there wanted_there by = absurd by
     typed_atoms (raw ∷ raws) (atom ∷ list) blanks here' sites_there wanted_there by =
         let is = here' raw (contains_first raw raws) in
         let both = wanted_both source blanks (sites_in source raw) (sites_of source raws) in
@@ -216,6 +208,7 @@ module _ (source : Source) (names : AreNamesClean source) (types : (fault : Faul
               (λ w inside. wanted_there w (subst (λ ws. Contains ws w) (sym both) (contains_right (wanted_from source blanks (sites_in source raw)) _ w (subst (λ b. Contains (wanted_from source b (sites_of source raws)) w) (sym after) inside))))
               by.1,
         )
+    typed_atoms raws list blanks here' sites_there wanted_there by = grind arith
 
     -- premises one after another are well typed
     pub typed_premises : (elems : List RawElem) (list : List PremiseTree) (blanks : ℕ) → ((raw : RawAtom) → Contains (atoms_of elems) raw → IsHere source raw)
@@ -223,11 +216,8 @@ module _ (source : Source) (names : AreNamesClean source) (types : (fault : Faul
         → ((w : Wanted) → Contains (wanted_from source blanks (sites_of source (atoms_of elems))) w → Contains (wanted_from source 0 (sites_of source atoms)) w)
         → ArePremisesBy source (names_of source atoms) blanks elems list
         → AllByRecursion (λ p. IsTyped (signature_of source) (kinds_of source atoms) p.atom) list
-    typed_premises [] [] blanks here' sites_there wanted_there by = tt
-    typed_premises [] (p ∷ list) blanks here' sites_there wanted_there by = absurd by
     typed_premises (elem.Qui span ∷ elems) list blanks here' sites_there wanted_there by = typed_premises elems list blanks here' sites_there wanted_there by
     typed_premises (elem.Stage span ∷ elems) list blanks here' sites_there wanted_there by = typed_premises elems list blanks here' sites_there wanted_there by
-    typed_premises (elem.Atom kept raw ∷ elems) [] blanks here' sites_there wanted_there by = absurd by
     typed_premises (elem.Atom kept raw ∷ elems) (p ∷ list) blanks here' sites_there wanted_there by =
         let is = here' raw (contains_first raw (atoms_of elems)) in
         let both = wanted_both source blanks (sites_in source raw) (sites_of source (atoms_of elems)) in
@@ -241,3 +231,4 @@ module _ (source : Source) (names : AreNamesClean source) (types : (fault : Faul
               (λ w inside. wanted_there w (subst (λ ws. Contains ws w) (sym both) (contains_right (wanted_from source blanks (sites_in source raw)) _ w (subst (λ b. Contains (wanted_from source b (sites_of source (atoms_of elems))) w) (sym after) inside))))
               by.2,
         )
+    typed_premises elems list blanks here' sites_there wanted_there by = grind arith

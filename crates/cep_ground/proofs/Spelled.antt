@@ -1,8 +1,8 @@
 -- Names that stand in a text are names of a program, and variables are names of variables.
-use Rattle.std.proofs.Common.{◌≡◌, inl, ⊎_elim, ℕ, ◌+◌, ◌-◌, ◌≤◌, Bool, List, [], ◌∷◌, ◌++◌, length, take, drop, refl, sym, ap, subst, ◌∙◌, arith, append_assoc, length-append}
+use Rattle.std.proofs.Common.{◌≡◌, ℕ, ◌+◌, ◌-◌, ◌≤◌, Bool, List, [], ◌∷◌, ◌++◌, length, take, drop, refl, sym, ap, subst, ◌∙◌, arith, append_assoc, length-append}
 use Rattle.std.proofs.Math.Seq.{drop-append_seam, take-append_seam}
 use Rattle.std.specs.List.{AllByRecursion}
-use Rattle.std.specs.Char.{is_ascii_lowercase, is_ascii_uppercase}
+use Rattle.std.specs.Char.{is_ascii_uppercase}
 use Rattle.cep_base.specs.Spelling.{is_name_byte}
 use Rattle.cep_lex.specs.declared.token.Token.{Token}
 use Rattle.cep_lex.specs.declared.token.TokenKind.{TokenKind}
@@ -25,10 +25,8 @@ pub record IsSpelled (text : List ℕ) (token : Token) : Type 0 where
 -- a word between what stands before and after it
 word_cut : (before gap word behind : List ℕ) (from to : ℕ) → from ≡ length before + length gap → to ≡ from + length word → slice_of (before ++ (gap ++ (word ++ behind))) from to ≡ word
 word_cut before gap word behind from to from_is to_is =
-    let size : to - from ≡ length word = omega (arith, to_is) in
-    let place : from ≡ length (before ++ gap) = from_is ∙ sym (length-append before gap) in
-    ap (λ n. take n (drop from (before ++ (gap ++ (word ++ behind))))) size
-    ∙ ap (λ n. take (length word) (drop n (before ++ (gap ++ (word ++ behind))))) place
+    ap (λ n. take n (drop from (before ++ (gap ++ (word ++ behind))))) (omega (arith, to_is))
+    ∙ ap (λ n. take (length word) (drop n (before ++ (gap ++ (word ++ behind))))) (from_is ∙ sym (length-append before gap))
     ∙ ap (λ bytes. take (length word) (drop (length (before ++ gap)) bytes)) (sym (append_assoc before gap (word ++ behind)))
     ∙ ap (take (length word)) (drop-append_seam (before ++ gap) (word ++ behind))
     ∙ take-append_seam word behind
@@ -64,65 +62,29 @@ span_spelled source is kind span at =
     )
 
 run_word : (begins : ℕ → Bool) (word : List ℕ) → Runs begins is_name_byte word → IsWord begins word
-run_word begins [] runs = absurd runs
-run_word begins (byte ∷ word) runs = runs
+run_word begins word runs = grind arith
 
 -- a name
 pub name_is : (source : Source) (is : IsSource source) (span : Span) → IsNameAt is.tokens span → IsName (said source span)
-name_is source is span at =
-    let all = span_spelled source is token.Name span at in
-    record {
-      word = run_word is_ascii_lowercase (said source span) all.0.0;
-      free = all.0.1;
-      short = ⊎_elim (λ (never : token.Name ≡ token.Number). absurd cc) (λ short. short) all.1;
-    }
+name_is source is span at = grind (arith, span_spelled source is token.Name span at)
 
 -- a variable
 pub variable_is : (source : Source) (is : IsSource source) (span : Span) → IsTokenAt is.tokens token.Variable span → IsVariableName (said source span)
-variable_is source is span at =
-    let all = span_spelled source is token.Variable span at in
-    record {
-      word = inl (run_word is_ascii_uppercase (said source span) all.0);
-      short = ⊎_elim (λ (never : token.Variable ≡ token.Number). absurd cc) (λ short. short) all.1;
-    }
+variable_is source is span at = grind (arith, span_spelled source is token.Variable span at)
 
 -- a variable begins with a capital letter
 pub variable_word : (source : Source) (is : IsSource source) (span : Span) → IsTokenAt is.tokens token.Variable span → IsWord is_ascii_uppercase (said source span)
 variable_word source is span at = run_word is_ascii_uppercase (said source span) (span_spelled source is token.Variable span at).0
 
 some_run : (first next : ℕ → Bool) (word : List ℕ) → Runs first next word → 1 ≤ length word
-some_run first next [] runs = absurd runs
-some_run first next (byte ∷ word) runs = omega arith
+some_run first next word runs = grind arith
 
 one_byte : (word codes_ : List ℕ) → word ≡ codes_ → 1 ≤ length codes_ → 1 ≤ length word
 one_byte word codes_ same some = subst (λ w. 1 ≤ length w) (sym same) some
 
 -- a token has a byte
 token_some : (kind : TokenKind) (word : List ℕ) → SpellsToken kind word → 1 ≤ length word
-token_some token.Name word spells = some_run is_ascii_lowercase is_name_byte word spells.0
-token_some token.Variable word spells = some_run is_ascii_uppercase is_name_byte word spells
-token_some token.Blank word spells = one_byte word _ spells (omega arith)
-token_some token.Number word spells = some_run _ _ word spells
-token_some token.Directive word spells = some_run _ _ word spells.0
-token_some token.Colon word spells = one_byte word _ spells (omega arith)
-token_some token.Dot word spells = one_byte word _ spells (omega arith)
-token_some token.Comma word spells = one_byte word _ spells (omega arith)
-token_some token.Star word spells = one_byte word _ spells (omega arith)
-token_some token.Dollar word spells = one_byte word _ spells (omega arith)
-token_some token.Equals word spells = one_byte word _ spells (omega arith)
-token_some token.Open word spells = one_byte word _ spells (omega arith)
-token_some token.Close word spells = one_byte word _ spells (omega arith)
-token_some token.OpenBrace word spells = one_byte word _ spells (omega arith)
-token_some token.CloseBrace word spells = one_byte word _ spells (omega arith)
-token_some token.Lolli word spells = one_byte word _ spells (omega arith)
-token_some token.Back word spells = one_byte word _ spells (omega arith)
-token_some token.KwType word spells = one_byte word _ spells (omega arith)
-token_some token.KwPred word spells = one_byte word _ spells (omega arith)
-token_some token.KwBwd word spells = one_byte word _ spells (omega arith)
-token_some token.KwFact word spells = one_byte word _ spells (omega arith)
-token_some token.KwStage word spells = one_byte word _ spells (omega arith)
-token_some token.KwContext word spells = one_byte word _ spells (omega arith)
-token_some token.KwQui word spells = one_byte word _ spells (omega arith)
+token_some kind word spells = grind (arith, some_run, one_byte)
 
 cuts_few : (at : ℕ) (bytes : List ℕ) (tokens : List Token) (rest : List ℕ) → Cuts at bytes tokens rest → length tokens ≤ length bytes
 cuts_few at bytes [] rest cut = omega arith

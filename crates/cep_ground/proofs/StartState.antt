@@ -4,7 +4,6 @@ use Rattle.std.proofs.lemmas.List.Sums.{sum_by-cons}
 use Rattle.std.proofs.lemmas.List.{append-nil}
 use Rattle.std.specs.Prelude.{sum_by, IsSomeAnd}
 use Rattle.std.specs.declared.cmp.Ordering.{Ordering}
-use Rattle.std.specs.declared.cmp.Ordering.TheVariants.{Less, Equal, Greater}
 use Rattle.std.specs.FinMap as finite
 use Rattle.std.specs.List.{AllByRecursion, list_any}
 use Rattle.std.proofs.lemmas.Bool.{ltb-true, lt-ltb}
@@ -72,9 +71,8 @@ module _ (source : Source) (clean : IsClean source) (made : AtomsMade source) (s
   listed_typed raw blanks atom listed by =
       let all = alone_here raw listed in
       let scope = raw ∷ [] in
-      let same : IsAtomBy source (names_of source scope) 0 raw atom = atom_alike source [] (names_of source scope) blanks 0 raw atom (listed_closed raw listed) by in
       let typed = typed_atoms source clean.names clean.types scope all.scope all.here (words source clean made scope all) (short source clean made scope all) scope (atom ∷ []) 0 all.here
-      (λ site inside. inside) (λ wanted inside. inside) (same, tt) in
+      (λ site inside. inside) (λ wanted inside. inside) ((atom_alike source [] (names_of source scope) blanks 0 raw atom (listed_closed raw listed) by), tt) in
       subst (λ ks. IsTyped (signature_of source) ks atom) (no_kinds raw listed) typed.0
 
   listed_of_state : (raw : RawAtom) (blanks : ℕ) (atom : AtomTree) (listed : Contains (state_atoms source) raw) → IsAtomBy source [] blanks raw atom → HasStatePredicate (signature_of source) atom
@@ -87,10 +85,9 @@ module _ (source : Source) (clean : IsClean source) (made : AtomsMade source) (s
   listed_fit : (raw : RawAtom) (blanks : ℕ) (atom : AtomTree) (listed : Contains (state_atoms source) raw) → IsAtomBy source [] blanks raw atom → IsFit atom
   listed_fit raw blanks atom listed by =
       let fits : (¬ IsFitWritten raw) → ⊥ = λ not_fit. clean.names (wrong OverLimit raw.name.from) (over raw.name.from (unfit raw listed not_fit refl) refl) in
-      let size = atom_size source [] blanks raw atom by in
       let deep = raw_depth source [] blanks raw atom by (listed_closed raw listed) in
       record {
-        nodes = not_greater _ _ (λ more_. fits (λ fit. let n = fit.nodes in omega (arith, n, size, more_)));
+        nodes = not_greater _ _ (λ more_. fits (λ fit. let n = fit.nodes in omega (arith, n, (atom_size source [] blanks raw atom by), more_)));
         depth = not_greater _ _ (λ more_. fits (λ fit. let d = fit.depth in omega (arith, d, deep, more_)));
       }
 
@@ -98,11 +95,9 @@ module _ (source : Source) (clean : IsClean source) (made : AtomsMade source) (s
   listed_state_atom raw blanks atom listed by = grind (arith, listed_closed raw listed, listed_typed raw blanks atom listed by, listed_of_state raw blanks atom listed by, listed_fit raw blanks atom listed by, starts.ground)
 
   pub listed_state_atoms : (raws : List RawAtom) (blanks : ℕ) (list : List AtomTree) → ((raw : RawAtom) → Contains raws raw → Contains (state_atoms source) raw) → AreAtomsBy source [] blanks raws list → AllByRecursion (IsStateAtom (signature_of source)) list
-  listed_state_atoms [] blanks [] all by = tt
-  listed_state_atoms [] blanks (atom ∷ list) all by = absurd by
-  listed_state_atoms (raw ∷ raws) blanks [] all by = absurd by
   listed_state_atoms (raw ∷ raws) blanks (atom ∷ list) all by =
       (listed_state_atom raw blanks atom (all raw (contains_first raw raws)) by.0, listed_state_atoms raws (blanks_after blanks raw.nodes) list (λ other there. all other (contains_behind raw raws other there)) by.1)
+  listed_state_atoms raws blanks list all by = grind arith
 
   -- an atom of a state is a fact where it is written as one
   fact_written : (raw : RawAtom) (blanks : ℕ) (atom : AtomTree) (listed : Contains (state_atoms source) raw) → IsAtomBy source [] blanks raw atom → is_fact_by source atom ≡ is_of_fact source raw
@@ -111,9 +106,7 @@ module _ (source : Source) (clean : IsClean source) (made : AtomsMade source) (s
   module _ (laws : BagLaws) where
     -- what is there stays there
     stays : (bag : Multiset) (a x : AtomTree) (o : Ordering) → atom_cmp x a ≡ o → 0 < count_of bag x → 0 < count_of (with_one bag a) x
-    stays bag a x Less is there = grind (arith, laws.others, laws.total)
-    stays bag a x Equal is there = subst (λ y. 0 < count_of (with_one bag y) x) (laws.ties x a is) (let own = laws.own bag x (count_of bag x + 1) in omega (arith, own))
-    stays bag a x Greater is there = grind (arith, laws.others, laws.total)
+    stays bag a x o is there = grind arith
 
     -- Each atom that is written like one of these is there.
     abbrev AreThere : List RawAtom → Multiset → Type 0
@@ -127,18 +120,11 @@ module _ (source : Source) (clean : IsClean source) (made : AtomsMade source) (s
       gains_step : (fact was there_ : Bool) (raw : RawAtom) (atom : AtomTree) (same more_ : List AtomTree) (kept next : List RawAtom) → size atom ≤ width raw
           → (was ≡ true → there_ ≡ true) → sum_by size same ≤ sum_by width kept → (there_ ≡ true → sum_by size same ≤ sum_by width next) → (sum_by size more_ ≤ sum_by width next)
           → sum_by size (if fact && there_ then same else atom ∷ more_) ≤ sum_by width (if fact && was then kept else raw ∷ next)
-      gains_step true true true raw atom same more_ kept next fits seen one two three = one
-      gains_step true true false raw atom same more_ kept next fits seen one two three = let never : ◌≡◌ {A = Bool} false true = seen refl in absurd cc
-      gains_step true false true raw atom same more_ kept next fits seen one two three = let wide = sum_by-cons width raw next in let less = two refl in omega (arith, wide, less)
-      gains_step true false false raw atom same more_ kept next fits seen one two three = let wide = sum_by-cons width raw next in let high = sum_by-cons size atom more_ in omega (arith, wide, high, three, fits)
-      gains_step false was there_ raw atom same more_ kept next fits seen one two three = let wide = sum_by-cons width raw next in let high = sum_by-cons size atom more_ in omega (arith, wide, high, three, fits)
+      gains_step fact was there_ raw atom same more_ kept next fits seen one two three = grind (arith, sum_by-cons)
 
       gains_less : (raws : List RawAtom) (blanks : ℕ) (list : List AtomTree) (before : List RawAtom) (bag : Multiset) → ((raw : RawAtom) → Contains raws raw → Contains (state_atoms source) raw)
           → ((raw : RawAtom) (more_ : ℕ) (atom : AtomTree) → Contains (state_atoms source) raw → IsAtomBy source [] more_ raw atom → size atom ≤ width raw)
           → AreAtomsBy source [] blanks raws list → AreThere before bag → sum_by size (gained (is_fact_by source) bag list) ≤ sum_by width (counting_behind source before raws)
-      gains_less [] blanks [] before bag all sized by there = omega arith
-      gains_less [] blanks (atom ∷ list) before bag all sized by there = absurd by
-      gains_less (raw ∷ raws) blanks [] before bag all sized by there = absurd by
       gains_less (raw ∷ raws) blanks (atom ∷ list) before bag all sized by there =
           let listed = all raw (contains_first raw raws) in
           let further = λ (other : RawAtom) (inside : Contains raws other). all other (contains_behind raw raws other inside) in
@@ -155,6 +141,7 @@ module _ (source : Source) (clean : IsClean source) (made : AtomsMade source) (s
           (gains_less raws now list (raw ∷ before) (with_one bag atom) further sized by.1
           (one_more raw blanks atom before (with_one bag atom) listed by.0 (let own = laws.own bag atom (count_of bag atom + 1) in omega (arith, own))
           (λ other more_ x listed' by' alike. stays bag atom x (atom_cmp x atom) refl (there other more_ x listed' by' alike)))))
+      gains_less raws blanks list before bag all sized by there = grind arith
 
 -- how many there are is a sum of ones
 ones_are : {X : Type 0} (xs : List X) → sum_by (λ (_ : X). 1) xs ≡ length xs
@@ -175,17 +162,12 @@ start_good source clean made starts laws trace rest start_ first by =
     let test = is_fact_by source in
     let kept = gained test finite.empty by.atoms in
     let ground = ground_all by.atoms is_state in
-    let same = by.start_is ∙ laws.once_gathered test by.atoms ground in
-    let copies_are = laws.gathered_copies kept in
-    let nodes_are = laws.gathered_nodes kept in
     let none = λ (raw : RawAtom) (blanks : ℕ) (atom : AtomTree) (listed : Contains (state_atoms source) raw) (is : IsAtomBy source [] blanks raw atom) (never : ◌≡◌ {A = Bool} false true). absurd cc in
     let ones = gains_less source clean made starts laws (λ _. 1) (λ _. 1) raws 0 by.atoms [] finite.empty written (λ raw more_ atom listed is. omega arith) by.atoms_are none in
     let sizes = gains_less source clean made starts laws atom_nodes nodes_written raws 0 by.atoms [] finite.empty written (λ raw more_ atom listed is. let size = atom_size source [] more_ raw atom is in omega (arith, size)) by.atoms_are none in
     let few_copies : length (counting source raws) ≤ 100000 = not_greater _ _ (λ more_. clean.names (wrong OverLimit trace.at) (over trace.at (copies trace rest first more_ refl) refl)) in
     let few_nodes : sum_by nodes_written (counting source raws) ≤ 4194304 = not_greater _ _ (λ more_. clean.names (wrong OverLimit trace.at) (over trace.at (nodes trace rest first more_ refl) refl)) in
-    let many = ones_are kept in
-    let most = ones_are (counting source raws) in
-    subst (IsGoodStart source) (sym same)
+    subst (IsGoodStart source) (sym (by.start_is ∙ laws.once_gathered test by.atoms ground))
     (record {
       state = record {
         bag = laws.gathered_kept kept (laws.gained_ground test finite.empty by.atoms ground);
@@ -193,8 +175,8 @@ start_good source clean made starts laws trace rest start_ first by =
         once = λ a fact. let one = ap (λ bag. count_of bag a) (sym (laws.once_gathered test by.atoms ground)) ∙ laws.once_count test (gathered by.atoms) a in at_most_one (test a) (count_of (gathered by.atoms) a) (count_of (gathered kept) a) (sym (fact_by source a) ∙ fact) one;
       };
       fits = record {
-        copies = omega (arith, copies_are, many, most, ones, few_copies);
-        nodes = omega (arith, nodes_are, sizes, few_nodes);
+        copies = omega (arith, (laws.gathered_copies kept), (ones_are kept), (ones_are (counting source raws)), ones, few_copies);
+        nodes = omega (arith, (laws.gathered_nodes kept), sizes, few_nodes);
       };
     })
   where

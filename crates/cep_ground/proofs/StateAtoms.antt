@@ -19,9 +19,7 @@ use Rattle.cep_infer.specs.States.{AreClosed}
 
 -- such nodes do not depend on variables
 head_alike : (source : Source) (vars others : List (List ℕ)) (blanks more_ : ℕ) (shape : RawKind) (at : Span) (args : ℕ) → shape ≡ kind.App → head_at source vars blanks shape at args ≡ head_at source others more_ shape at args
-head_alike source vars others blanks more_ kind.App at args is = refl
-head_alike source vars others blanks more_ kind.Var at args is = absurd cc
-head_alike source vars others blanks more_ kind.Blank at args is = absurd cc
+head_alike source vars others blanks more_ shape at args is = grind arith
 
 pub heads_alike : (source : Source) (vars others : List (List ℕ)) (blanks more_ : ℕ) (nodes : List RawNode) → AreClosed nodes → heads_from source vars blanks nodes ≡ heads_from source others more_ nodes
 heads_alike source vars others blanks more_ [] all = refl
@@ -40,14 +38,10 @@ module _ (source : Source) (vars : List (List ℕ)) where
     within : greatest (levels next nodes) ≤ most
 
   con_args : (blanks c count : ℕ) (shape : RawKind) (at : Span) (args : ℕ) → con c count ≡ head_at source vars blanks shape at args → count ≡ args
-  con_args blanks c count kind.App at args e = cc
-  con_args blanks c count kind.Var at args e = absurd cc
-  con_args blanks c count kind.Blank at args e = absurd cc
+  con_args blanks c count shape at args e = grind arith
 
   no_var : (blanks v : ℕ) (shape : RawKind) (at : Span) (args : ℕ) → shape ≡ kind.App → var v ≡ head_at source vars blanks shape at args → ⊥
-  no_var blanks v kind.App at args is e = absurd cc
-  no_var blanks v kind.Var at args is e = absurd cc
-  no_var blanks v kind.Blank at args is e = absurd cc
+  no_var blanks v shape at args is e = absurd cc
 
   mutual
     deep_term : (t : Tree) (level : ℕ) (next : List ℕ) (heads : List Head) (blanks : ℕ) (nodes : List RawNode)

@@ -1,5 +1,5 @@
 -- Terms are of the types that are wanted of them.
-use Rattle.std.proofs.Common.{◌≡◌, ℕ, ◌+◌, List, [], ◌∷◌, ◌++◌, length, map, refl, sym, subst, ◌∙◌, arith, append_assoc}
+use Rattle.std.proofs.Common.{◌≡◌, ℕ, ◌+◌, List, [], ◌∷◌, ◌++◌, length, map, sym, subst, ◌∙◌, arith, append_assoc}
 use Rattle.std.specs.Prelude.{Some, slice_get, codes, decimal}
 use Rattle.cep_parse.specs.declared.raw.Span.{Span}
 use Rattle.cep_parse.specs.declared.raw.RawKind.{RawKind}
@@ -48,15 +48,11 @@ module _ (source : Source) (vars : List (List ℕ)) (kinds : List ℕ) (cons : L
     pub good : AreGood blanks next nodes
 
   var_good : (kind : RawKind) (at : Span) (args v blanks : ℕ) (wants : List ℕ) → var v ≡ head_at source vars blanks kind at args → IsGood blanks wants kind at args → slice_get kinds v ≡ Some (type_number wants)
-  var_good kind.App at args v blanks wants e good = absurd cc
-  var_good kind.Var at args v blanks wants e good = let same : variable_of vars (said source at) ≡ v = cc in subst (λ n. slice_get kinds n ≡ Some (type_number wants)) same good
-  var_good kind.Blank at args v blanks wants e good = let same : variable_of vars (codes "_" ++ decimal (blanks + 1)) ≡ v = cc in subst (λ n. slice_get kinds n ≡ Some (type_number wants)) same good
+  var_good kind at args v blanks wants e good = grind (arith, type_number)
 
   -- no term stands after a variable as its argument
   no_types : (kind : RawKind) (at : Span) (args v blanks : ℕ) (next : List (List ℕ)) → var v ≡ head_at source vars blanks kind at args → node_types source kind at ++ next ≡ next
-  no_types kind.App at args v blanks next e = absurd cc
-  no_types kind.Var at args v blanks next e = refl
-  no_types kind.Blank at args v blanks next e = refl
+  no_types kind at args v blanks next e = grind arith
 
   -- a constructor stands at a node that is one
   pub record IsConAt (c count : ℕ) (shape : RawKind) (at : Span) (args : ℕ) : Type 0 where
@@ -65,9 +61,7 @@ module _ (source : Source) (vars : List (List ℕ)) (kinds : List ℕ) (cons : L
     pub count_is : count ≡ args
 
   con_at : (kind : RawKind) (at : Span) (args c count blanks : ℕ) → con c count ≡ head_at source vars blanks kind at args → IsConAt c count kind at args
-  con_at kind.App at args c count blanks e = record { kind_is = refl; number = cc; count_is = cc }
-  con_at kind.Var at args c count blanks e = absurd cc
-  con_at kind.Blank at args c count blanks e = absurd cc
+  con_at kind at args c count blanks e = grind arith
 
   con_typed : (c : ℕ) (args : Trees) (wants : List ℕ) (at : Span) (count : ℕ) (good : IsGoodCon wants at count) → c ≡ number_of source space.Constructors (said source at) → HaveSorts cons kinds good.con.args args → HasSort cons kinds (type_number wants) (node c args)
   con_typed c args wants at count good number typed = grind (arith, good.found, good.sort)

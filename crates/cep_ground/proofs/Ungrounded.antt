@@ -26,19 +26,13 @@ use Rattle.cep_ground.proofs.Once.{parts_once}
 
 -- places in bytes and by lines, those that are marked
 marked_places : (text : List ℕ) (ats : List ℕ) (ps : List Pos) (marks : List Bool) → ArePlaces text ats ps → ArePlaces text (marked_among ats marks) (marked_among ps marks)
-marked_places text [] [] marks are = tt
-marked_places text [] (p ∷ ps) marks are = absurd are
-marked_places text (at ∷ ats) [] marks are = absurd are
-marked_places text (at ∷ ats) (p ∷ ps) [] are = tt
 marked_places text (at ∷ ats) (p ∷ ps) (true ∷ marks) are = (are.0, marked_places text ats ps marks are.1)
 marked_places text (at ∷ ats) (p ∷ ps) (false ∷ marks) are = marked_places text ats ps marks are.1
+marked_places text ats ps marks are = grind arith
 
 all_marked_places : (text : List ℕ) (ats : List (List ℕ)) (lists : List (List Pos)) (marks : List (List Bool)) → ArePlaceLists text ats lists → ArePlaces text (all_marked ats marks) (all_marked lists marks)
-all_marked_places text [] [] marks are = tt
-all_marked_places text [] (ps ∷ lists) marks are = absurd are
-all_marked_places text (xs ∷ ats) [] marks are = absurd are
-all_marked_places text (xs ∷ ats) (ps ∷ lists) [] are = tt
 all_marked_places text (xs ∷ ats) (ps ∷ lists) (ms ∷ marks) are = grind (arith, both_places, marked_places, are.0, all_marked_places text ats lists marks are.1, are.1)
+all_marked_places text ats lists marks are = grind arith
 
 -- An item at a place of a list.
 record IsThere {A : Type 0} (xs : List A) (n : ℕ) (P : A → Type 0) : Type 0 where
@@ -47,30 +41,21 @@ record IsThere {A : Type 0} (xs : List A) (n : ℕ) (P : A → Type 0) : Type 0 
   holds : P item
 
 rule_marked : (clauses : List ClauseTree) (rules : List Rule) (lists : List (List Bool)) (n : ℕ) (marks : List Bool) → AreAllMarks clauses rules lists → slice_get lists n ≡ Some marks → IsThere rules n (λ rule. AreMarks clauses rule marks)
-rule_marked clauses [] [] n marks are is = none_some marks is
-rule_marked clauses [] (ms ∷ lists) n marks are is = absurd are
-rule_marked clauses (rule ∷ rules) [] n marks are is = absurd are
-rule_marked clauses (rule ∷ rules) (ms ∷ lists) zero marks are is = record { item = rule; there = refl; holds = subst (AreMarks clauses rule) (some_same ms marks is) are.0 }
 rule_marked clauses (rule ∷ rules) (ms ∷ lists) (suc n) marks are is = let rest = rule_marked clauses rules lists n marks are.1 is in record { item = rest.item; there = rest.there; holds = rest.holds }
+rule_marked clauses rules lists n marks are is = grind (arith, none_some, some_same)
 
 marks_of : (clauses : List ClauseTree) (rules : List Rule) (lists : List (List Bool)) (n : ℕ) (rule : Rule) → AreAllMarks clauses rules lists → slice_get rules n ≡ Some rule → IsThere lists n (λ marks. AreMarks clauses rule marks)
-marks_of clauses [] lists n rule are is = none_some rule is
-marks_of clauses (r ∷ rules) [] n rule are is = absurd are
-marks_of clauses (r ∷ rules) (ms ∷ lists) zero rule are is = record { item = ms; there = refl; holds = subst (λ q. AreMarks clauses q ms) (some_same r rule is) are.0 }
 marks_of clauses (r ∷ rules) (ms ∷ lists) (suc n) rule are is = let rest = marks_of clauses rules lists n rule are.1 is in record { item = rest.item; there = rest.there; holds = rest.holds }
+marks_of clauses rules lists n rule are is = grind (arith, none_some, some_same)
 
 item_of : (source : Source) (items : List RuleItem) (rules : List Rule) (n : ℕ) (rule : Rule) → AllZip (IsRuleBy source) items rules → slice_get rules n ≡ Some rule → IsThere items n (λ item. IsRuleBy source item rule)
-item_of source [] [] n rule are is = none_some rule is
-item_of source [] (r ∷ rules) n rule are is = absurd are
-item_of source (item ∷ items) [] n rule are is = none_some rule is
-item_of source (item ∷ items) (r ∷ rules) zero rule are is = record { item = item; there = refl; holds = subst (IsRuleBy source item) (some_same r rule is) are.0 }
 item_of source (item ∷ items) (r ∷ rules) (suc n) rule are is = let rest = item_of source items rules n rule are.1 is in record { item = rest.item; there = rest.there; holds = rest.holds }
+item_of source items rules n rule are is = grind (arith, none_some, some_same)
 
 -- a premise that calls a pair is one of the rule's
 called_at : (pairs : ℕ → Known → Type 0) (known : Known) (goals : List AtomTree) (i : ℕ) → CallsAt pairs known goals i → i < length goals
-called_at pairs known [] i calls = absurd calls
-called_at pairs known (goal ∷ goals) zero calls = omega arith
 called_at pairs known (goal ∷ goals) (suc i) calls = let rest = called_at pairs (known_after known goal) goals i calls in omega (arith, rest)
+called_at pairs known goals i calls = grind arith
 
 called_within : (clauses : List ClauseTree) (rule : Rule) (i : ℕ) → IsUngroundedAt clauses rule i → i < length rule.backs
 called_within clauses rule i calls = called_at (IsBad clauses) (known_after_all nothing (needed_of rule)) rule.backs i calls
@@ -83,9 +68,8 @@ item_within (x ∷ xs) (suc n) within = let rest = item_within xs n (omega (arit
 
 -- what is at a place of an image
 mapped_at : {A B : Type 0} (f : A → B) (xs : List A) (n : ℕ) (y : B) → slice_get (map f xs) n ≡ Some y → IsThere xs n (λ x. f x ≡ y)
-mapped_at f [] n y is = none_some y is
-mapped_at f (x ∷ xs) zero y is = record { item = x; there = refl; holds = some_same (f x) y is }
 mapped_at f (x ∷ xs) (suc n) y is = let rest = mapped_at f xs n y is in record { item = rest.item; there = rest.there; holds = rest.holds }
+mapped_at f xs n y is = grind (arith, none_some, some_same)
 
 -- The first backward premise that calls a bad pair, and where it stands.
 pub record IsFirstUngrounded (source : Source) (pos : Pos) : Type 0 where
@@ -103,8 +87,7 @@ pub placed : (source : Source) (parts : Parts) → AreParts source parts → Are
 placed source parts are counted n rule is i calls =
     let item = item_of source (rules_of source) parts.rules n rule are.rules_are is in
     let size = counted item.item rule (to_contains (rules_of source) item.item (in_got (rules_of source) n item.item item.there)) item.holds in
-    let within = called_within parts.clauses rule i calls in
-    let at = item_within (backs_at source item.item) i (omega (arith, size, within)) in
+    let at = item_within (backs_at source item.item) i (omega (arith, size, (called_within parts.clauses rule i calls))) in
     (at.item, record { parts = parts; declared = are; number = n; premise = i; item = item.item; rule = rule; written = item.there; numbered = is; calls = calls; here = at.there })
 
 module _ (source : Source) (parts : Parts) (are : AreParts source parts) (marks : List (List Bool)) (marked : AreAllMarks parts.clauses parts.rules marks) where

@@ -2,7 +2,7 @@
 use Rattle.std.proofs.Common.{◌≡◌, ⊎_elim, ℕ, suc, ◌+◌, ◌<◌, ◌^◌, true, List, [], ◌∷◌, ◌++◌, length, map, refl, sym, ap, subst, ◌∙◌, arith, Contains}
 use Rattle.std.proofs.lemmas.List.{length-map}
 use Rattle.std.proofs.lemmas.Fmt.{length-decimal-le}
-use Rattle.std.specs.Prelude.{Option, Some, None, unwrap_or, codes, decimal}
+use Rattle.std.specs.Prelude.{Option, unwrap_or, codes, decimal}
 use Rattle.std.specs.Option.{option_map}
 use Rattle.std.specs.Str.{bytes_eq}
 use Rattle.std.specs.List.{AllByRecursion, flat_map}
@@ -35,10 +35,7 @@ use Rattle.cep_ground.proofs.RuleScopes.{AtomsMade, AreHere, atom_of_tokens}
 module _ (source : Source) (clean : IsClean source) (made : AtomsMade source) where
   -- a name that is in a space has a number there
   pub in_range : (name : List ℕ) → is_in source space.Sorts name ≡ true → number_of source space.Sorts name < length (sorts_of source)
-  in_range name is =
-      let within = number_within source space.Sorts name is in
-      let size = length-map (sorts_of source) (named source) in
-      omega (arith, within, size)
+  in_range name is = omega (arith, number_within source space.Sorts name is, length-map (sorts_of source) (named source))
 
   -- the types that declarations name are declared
   con_type_known : (con : ConItem) (span : Span) → Contains (cons_of source) con → Contains (con.args ++ con.sort ∷ []) span → is_in source space.Sorts (said source span) ≡ true
@@ -53,9 +50,7 @@ module _ (source : Source) (clean : IsClean source) (made : AtomsMade source) wh
   con_sort_known con there = con_type_known con con.sort there (contains_right con.args _ con.sort (contains_first con.sort []))
 
   pred_arg_known : (pred : PredItem) (span : Span) → Contains (preds_of source) pred → Contains pred.args span → is_in source space.Sorts (said source span) ≡ true
-  pred_arg_known pred span there inside =
-      known source space.Sorts span clean.names
-      (contains_left (flat_map (λ (one : PredItem). one.args) (preds_of source)) _ span (contains_flat (λ (one : PredItem). one.args) (preds_of source) pred span there inside))
+  pred_arg_known pred span there inside = rw (known source space.Sorts span clean.names (contains_left (flat_map (λ (one : PredItem). one.args) (preds_of source)) _ span (contains_flat (λ (one : PredItem). one.args) (preds_of source) pred span there inside)))
 
   pub con_args_known : (con : ConItem) → Contains (cons_of source) con → AllByRecursion (λ name. is_in source space.Sorts name ≡ true) (map (said source) con.args)
   con_args_known con there = all_map (λ name. is_in source space.Sorts name ≡ true) (said source) con.args (all_of (λ span. is_in source space.Sorts (said source span) ≡ true) con.args (λ span inside. con_arg_known con span there inside))
@@ -68,17 +63,13 @@ module _ (source : Source) (clean : IsClean source) (made : AtomsMade source) wh
   AreTypes types = AllByRecursion (λ name. is_in source space.Sorts name ≡ true) types
 
   con_types_known : (found : Option ConItem) (name : List ℕ) → con_named source name ≡ found → AreTypes (map (said source) (unwrap_or (option_map (λ (con : ConItem). con.args) found) []))
-  con_types_known None name is = tt
-  con_types_known (Some con) name is = con_args_known con (found_in (λ (con : ConItem). bytes_eq (said source con.name) name) (cons_of source) con is).there
+  con_types_known found name is = grind (arith, con_args_known, found_in)
 
   node_types_known : (shape : RawKind) (at : Span) → AreTypes (node_types source shape at)
-  node_types_known kind.App at = con_types_known (con_named source (said source at)) (said source at) refl
-  node_types_known kind.Var at = tt
-  node_types_known kind.Blank at = tt
+  node_types_known shape at = grind (arith, con_types_known)
 
   pred_types_by : (found : Option PredItem) (name : List ℕ) → pred_named source name ≡ found → AreTypes (map (said source) (unwrap_or (option_map (λ (pred : PredItem). pred.args) found) []))
-  pred_types_by None name is = tt
-  pred_types_by (Some pred) name is = pred_args_known pred (found_in (λ (pred : PredItem). bytes_eq (said source pred.name) name) (preds_of source) pred is).there
+  pred_types_by found name is = grind (arith, pred_args_known, found_in)
 
   pred_types_known : (name : List ℕ) → AreTypes (pred_types source name)
   pred_types_known name = pred_types_by (pred_named source name) name refl
@@ -88,9 +79,8 @@ module _ (source : Source) (clean : IsClean source) (made : AtomsMade source) wh
   both_types (x ∷ one) other here there = (here.0, both_types one other here.1 there)
 
   sites_known : (types : List (List ℕ)) (nodes : List RawNode) → AreTypes types → AllByRecursion (λ (site : Site). is_in source space.Sorts site.wants ≡ true) (sites_from source types nodes)
-  sites_known [] nodes all = tt
-  sites_known (wants ∷ next) [] all = tt
   sites_known (wants ∷ next) (first ∷ nodes) all = (all.0, sites_known (node_types source first.kind first.at ++ next) nodes (both_types (node_types source first.kind first.at) next (node_types_known first.kind first.at) all.1))
+  sites_known types nodes all = tt
 
   atom_sites_known : (atoms : List RawAtom) (site : Site) → Contains (sites_of source atoms) site → is_in source space.Sorts site.wants ≡ true
   atom_sites_known atoms site there =
@@ -115,8 +105,7 @@ module _ (source : Source) (clean : IsClean source) (made : AtomsMade source) wh
       let named_ : Contains (map (λ (w : Wanted). w.name) (wanted_from source 0 (sites_of source atoms))) o.name = subst (λ ns. Contains ns o.name) (sym names_are) (contains_map (λ (o : Occurrence). o.name) (occurrences_of source atoms) o occurs) in
       let found = any_found (λ (w : Wanted). w.name) (λ name. bytes_eq name o.name) (wanted_from source 0 (sites_of source atoms)) (is_any _ o.name named_) in
       let inside = (found_in (λ (w : Wanted). bytes_eq w.name o.name) (wanted_from source 0 (sites_of source atoms)) found.it found.found_is).there in
-      let type_is : type_of source atoms o.name ≡ Some found.it.wants = ap (option_map (λ (w : Wanted). w.wants)) found.found_is in
-      subst (λ f. number_of source space.Sorts (unwrap_or f []) < length (sorts_of source)) (sym type_is)
+      subst (λ f. number_of source space.Sorts (unwrap_or f []) < length (sorts_of source)) (sym (ap (option_map (λ (w : Wanted). w.wants)) found.found_is))
       (in_range found.it.wants (wanted_known 0 (sites_of source atoms) found.it (λ site in_. atom_sites_known atoms site in_) inside))
 
   pub kinds_in_range : (atoms : List RawAtom) → AreHere source clean made atoms → AllByRecursion (λ sort. sort < length (sorts_of source)) (kinds_of source atoms)
@@ -129,14 +118,10 @@ module _ (source : Source) (clean : IsClean source) (made : AtomsMade source) wh
   blank_name blanks few = grind (arith, length-decimal-le)
 
   name_at : (blanks : ℕ) (shape : RawKind) (at : Span) (o : Occurrence) → blanks < 2 ^ 63 → IsWrittenAt clean.is_source.tokens shape at → Contains (occurrence_at source blanks at shape) o → IsVariableName o.name
-  name_at blanks kind.App at o few node there = absurd (contains_none o there)
-  name_at blanks kind.Var at o few node there = ⊎_elim (λ (same : record { name = said source at; at = at } ≡ o). subst (λ (p : Occurrence). IsVariableName p.name) same (variable_is source clean.is_source at node)) (λ later. absurd (contains_none o later)) (contains_cases (record { name = said source at; at = at }) [] o there)
-  name_at blanks kind.Blank at o few node there = ⊎_elim (λ (same : record { name = codes "_" ++ decimal (blanks + 1); at = at } ≡ o). subst (λ (p : Occurrence). IsVariableName p.name) same (blank_name blanks few)) (λ later. absurd (contains_none o later)) (contains_cases (record { name = codes "_" ++ decimal (blanks + 1); at = at }) [] o there)
+  name_at blanks shape at o few node there = grind (arith, contains_none, variable_is, contains_cases, blank_name)
 
   fewer : (blanks size : ℕ) (shape : RawKind) → blanks + suc size < 2 ^ 63 → blanks_behind blanks shape + size < 2 ^ 63
-  fewer blanks size kind.App few = omega arith
-  fewer blanks size kind.Var few = omega arith
-  fewer blanks size kind.Blank few = omega arith
+  fewer blanks size shape few = grind arith
 
   names_at : (blanks : ℕ) (nodes : List RawNode) (o : Occurrence) → blanks + length nodes < 2 ^ 63 → ((node : RawNode) → Contains nodes node → IsWrittenAt clean.is_source.tokens node.kind node.at) → Contains (occurrences_from source blanks nodes) o → IsVariableName o.name
   names_at blanks [] o few all there = absurd (contains_none o there)

@@ -1,5 +1,5 @@
 -- The variables of atoms and the types that are wanted of them.
-use Rattle.std.proofs.Common.{◌≡◌, ◌⊎◌, ⊎_elim, ℕ, suc, ◌+◌, ◌<◌, ◌≤◌, ◌^◌, Bool, true, false, ◌||◌, if◌then◌else◌, List, [], ◌∷◌, ◌++◌, length, map, refl, sym, ap, subst, ◌∙◌, arith, append_assoc, length-append, Contains}
+use Rattle.std.proofs.Common.{◌≡◌, ◌⊎◌, ⊎_elim, ℕ, suc, ◌+◌, ◌<◌, ◌≤◌, ◌^◌, Bool, true, false, ◌||◌, if◌then◌else◌, List, [], ◌∷◌, ◌++◌, length, map, refl, sym, ap, subst, ◌∙◌, arith, length-append, Contains}
 use Rattle.std.specs.Prelude.{Option, Some, unwrap_or, codes, decimal, cond}
 use Rattle.std.specs.Option.{option_map}
 use Rattle.std.specs.Str.{bytes_eq}
@@ -16,10 +16,11 @@ use Rattle.cep_parse.specs.Written.{Fill, IsCount}
 use Rattle.cep_rule.specs.Names.{IsWord}
 use Rattle.cep_source.specs.Items.{Source, ConItem, PredItem, said}
 use Rattle.cep_source.specs.Spaces.{pred_named, con_named}
-use Rattle.cep_source.specs.Variables.{Occurrence, occurrence_at, blanks_behind, occurrences_from, firsts_beside, blanks_after}
+use Rattle.cep_source.specs.Variables.{Occurrence, occurrence_at, blanks_behind, occurrences_from, firsts_beside}
 use Rattle.cep_types.specs.Sites.{Site, Wanted, pred_types, node_types, sites_from, wanted_from}
 use Rattle.cep_base.proofs.Elements.{contains_none, contains_first, contains_behind, contains_cases}
 use Rattle.cep_ground.proofs.Known.{IsConKnown}
+pub use Rattle.cep_types.proofs.Meeting.{wanted_both}
 
 -- the nodes of terms
 abbrev pub nodes_at : List Site → List RawNode
@@ -34,25 +35,16 @@ con_types_are source at con found = ap (λ (is : Option ConItem). map (said sour
 
 -- a constructor wants as many types as there are arguments, and a variable none
 types_count : (source : Source) (shape : RawKind) (at : Span) (args : ℕ) → IsCount shape args → (shape ≡ kind.App → IsConKnown source at args) → length (node_types source shape at) ≡ args
-types_count source kind.App at args count known = grind (arith, con_types_are, length-map)
-types_count source kind.Var at args count known = sym count
-types_count source kind.Blank at args count known = sym count
+types_count source shape at args count known = grind (arith, con_types_are, length-map)
 
 -- each node of terms that are so many stands at a place of its own
 pub sites_whole : (source : Source) (types : List (List ℕ)) (nodes : List RawNode) → Fill (length types) nodes → ((node : RawNode) → Contains nodes node → node.kind ≡ kind.App → IsConKnown source node.at node.args) → nodes_at (sites_from source types nodes) ≡ nodes
-sites_whole source [] [] fill known = refl
-sites_whole source [] (first ∷ nodes) fill known = absurd fill
-sites_whole source (wants ∷ next) [] fill known = absurd fill
 sites_whole source (wants ∷ next) (first ∷ nodes) fill known =
     let count = types_count source first.kind first.at first.args fill.0 (known first (contains_first first nodes)) in
     let size : first.args + length next ≡ length (node_types source first.kind first.at ++ next) = omega (arith, count, length-append (node_types source first.kind first.at) next) in
     let rest = sites_whole source (node_types source first.kind first.at ++ next) nodes (subst (λ n. Fill n nodes) size fill.1) (λ node there. known node (contains_behind first nodes node there)) in
     ap (λ ns. first ∷ ns) rest
-
--- the terms of two lists of types, one after the other
-pub wanted_both : (source : Source) (blanks : ℕ) (sites others : List Site) → wanted_from source blanks (sites ++ others) ≡ wanted_from source blanks sites ++ wanted_from source (blanks_after blanks (nodes_at sites)) others
-wanted_both source blanks [] others = refl
-wanted_both source blanks (site ∷ sites) others = grind (arith, append_assoc, site.wants, site.node.at, site.node.kind, wanted_both source (blanks_behind blanks site.node.kind) sites others)
+sites_whole source types nodes fill known = grind arith
 
 -- the variables of terms are those of their nodes
 pub wanted_names : (source : Source) (blanks : ℕ) (sites : List Site) → map (λ (w : Wanted). w.name) (wanted_from source blanks sites) ≡ map (λ (o : Occurrence). o.name) (occurrences_from source blanks (nodes_at sites))
@@ -112,8 +104,7 @@ firsts_by : (b : Bool) (seen : List (List ℕ)) (o : Occurrence) (occurrences : 
     → (Contains (firsts_beside seen occurrences) x → Contains occurrences x)
     → (Contains (firsts_beside (o.name ∷ seen) occurrences) x → Contains occurrences x)
     → Contains (o ∷ occurrences) x
-firsts_by true seen o occurrences x there old new = contains_behind o occurrences x (old there)
-firsts_by false seen o occurrences x there old new = grind (arith, contains_first, contains_behind, contains_cases, o.name)
+firsts_by b seen o occurrences x there old new = grind (arith, contains_behind, contains_first, contains_cases)
 
 pub firsts_there : (seen : List (List ℕ)) (occurrences : List Occurrence) (x : Occurrence) → Contains (firsts_beside seen occurrences) x → Contains occurrences x
 firsts_there seen [] x there = there
@@ -121,17 +112,12 @@ firsts_there seen (o ∷ occurrences) x there =
     firsts_by (list_any (λ other. bytes_eq other o.name) seen) seen o occurrences x there
     (λ old. firsts_there seen occurrences x old) (λ new. firsts_there (o.name ∷ seen) occurrences x new)
 
--- a name of a blank is that of no other blank
-blank_name : ℕ → List ℕ
-blank_name blanks = codes "_" ++ decimal (blanks + 1)
-
 blanks_differ : (one other : ℕ) → one < other → other + 1 < 2 ^ 64 → codes "_" ++ decimal (one + 1) ≡ codes "_" ++ decimal (other + 1) → ⊥
 blanks_differ one other less short same = grind (arith, decimal_injective)
 
 -- nor that of a variable
 word_differs : (word rest : List ℕ) → IsWord is_ascii_uppercase word → word ≡ 95 ∷ rest → ⊥
-word_differs [] rest is same = is
-word_differs (byte ∷ word) rest is same = grind (arith, is.0)
+word_differs word rest is same = grind arith
 
 -- A variable by its name at a place, or a blank, whose name nothing before it has.
 pub data IsFirstIn (source : Source) (blanks : ℕ) (wanted : List Wanted) (sites : List Site) (w : Wanted) : Type 0 where
@@ -195,9 +181,7 @@ first_step source blanks site sites w kind.Blank is short word there later =
     (contains_cases (record { name = codes "_" ++ decimal (blanks + 1); wants = site.wants }) (wanted_from source (blanks + 1) sites) w there)
 
 more_short : (blanks : ℕ) (size : ℕ) (shape : RawKind) → blanks + suc size < 2 ^ 64 → blanks_behind blanks shape + size < 2 ^ 64
-more_short blanks size kind.App short = omega arith
-more_short blanks size kind.Var short = omega arith
-more_short blanks size kind.Blank short = omega arith
+more_short blanks size shape short = grind arith
 
 -- each variable of the terms is written somewhere, or a blank with a name of its own
 pub first_wanted : (source : Source) (blanks : ℕ) (sites : List Site) (w : Wanted) → AreWords source sites → blanks + length sites < 2 ^ 64 → Contains (wanted_from source blanks sites) w → IsFirstIn source blanks (wanted_from source blanks sites) sites w
