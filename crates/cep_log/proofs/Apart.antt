@@ -1,12 +1,11 @@
 -- Bytes have one log at most, or else one first misfit.
-use Rattle.std.proofs.Common.{◌≡◌, ◌⊎◌, inl, inr, ℕ, ◌+◌, List, [], ◌∷◌, ◌++◌, length, Some, sym, ap, ◌∙◌, subst, arith}
+use Rattle.std.proofs.Common.{◌≡◌, ◌⊎◌, inl, inr, ℕ, ◌+◌, List, [], ◌∷◌, ◌++◌, length, Some, sym, ◌∙◌, subst, arith}
 use Rattle.cep_base.proofs.Lists.{none_some, some_same}
 use Rattle.cep_rule.specs.declared.parts.Parts.{Parts}
 use Rattle.cep_log.specs.declared.log.Log.{Log}
 use Rattle.cep_log.specs.declared.so_far.SoFar.{SoFar}
 use Rattle.cep_log.specs.declared.so_far.SoFar.TheVariants.{Nothing}
 use Rattle.cep_log.specs.declared.fault.LogFault.{LogFault}
-use Rattle.cep_log.specs.declared.fault.LogFault.TheVariants.{Line, NoRule}
 use Rattle.cep_log.specs.Transcript.{MovesOn, Leads, said_by, HasLog, HasMisfit, IsFirstMisfit, StopsEarly, IsFaultOf}
 use Rattle.cep_log.proofs.Cuts.{one_cut}
 use Rattle.cep_log.proofs.Once.{OneValue, one_way, one_passed}
@@ -17,8 +16,7 @@ leads_through : (program : Parts) (n : ℕ) (before : List (List ℕ)) (line : L
 leads_through program n [] line behind old new leads = grind (arith, leads.0, leads.1)
 leads_through program n (first ∷ before) line behind old new leads =
     let later = leads_through program (n + 1) before line behind leads.0 new leads.2 in
-    let at : n + 1 + length before ≡ n + length (first ∷ before) = omega arith in
-    (later.0, later.1, (leads.0, leads.1, later.2), subst (λ (m : ℕ). MovesOn program m line later.0 later.1) at later.3)
+    (later.0, later.1, (leads.0, leads.1, later.2), subst (λ (m : ℕ). MovesOn program m line later.0 later.1) (omega arith) later.3)
 
 -- the line that leads nowhere is on no way
 no_way : (program : Parts) (laws : OneValue program) (lines : List (List ℕ)) (fault : LogFault) (new : SoFar) → IsFirstMisfit program lines fault → Leads program 1 lines Nothing new → ⊥
@@ -54,10 +52,7 @@ log_or_misfit program laws bytes log fault a b = cases b.why where
 
 -- what a fault says of a line is one
 one_fault : (program : Parts) (number : ℕ) (line : List ℕ) (so_far : SoFar) (one other : LogFault) → IsFaultOf program number line so_far one → IsFaultOf program number line so_far other → one ≡ other
-one_fault program number line so_far (Line at) (Line at') a b = ap Line (a.0 ∙ sym b.0)
-one_fault program number line so_far (Line at) (NoRule at') a b = absurd (a.1 (b.1, b.2))
-one_fault program number line so_far (NoRule at) (Line at') a b = absurd (b.1 (a.1, a.2))
-one_fault program number line so_far (NoRule at) (NoRule at') a b = ap NoRule (a.0 ∙ sym b.0)
+one_fault program number line so_far one other a b = grind arith
 
 -- two lines that lead nowhere from where those before them lead: they are one line
 one_place : (program : Parts) (laws : OneValue program) (n : ℕ) (start : SoFar) (before before' : List (List ℕ)) (line line' : List ℕ) (behind behind' : List (List ℕ)) (so_far so_far' : SoFar)
@@ -81,7 +76,6 @@ one_place program laws n start (first ∷ before) (first' ∷ before') line line
     let at' : n + length (first' ∷ before') ≡ n + 1 + length before' = omega arith in
     let later = one_place program laws (n + 1) b.0 before before' line line' behind behind' so_far so_far' tail (subst (λ s. Leads program (n + 1) before s so_far) next a.2) b.2
     (subst (λ (m : ℕ). (new : SoFar) → ¬ (MovesOn program m line so_far new)) at no_one) (subst (λ (m : ℕ). (new : SoFar) → ¬ (MovesOn program m line' so_far' new)) at' no_other) in
-    let rest : before ≡ before' = later.0 in
     ((cc), later.1, later.2)
 
 pub one_misfit : (program : Parts) (laws : OneValue program) (bytes : List ℕ) (one other : LogFault) → HasMisfit program bytes one → HasMisfit program bytes other → one ≡ other

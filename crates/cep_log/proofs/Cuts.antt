@@ -134,10 +134,7 @@ few_lines bytes = let h = few_from (length bytes) bytes in let m = length-map (l
 
 -- The lines of bytes are one list.
 one_before : (line line' text : List ℕ) → IsBefore line text → IsBefore line' text → line ≡ line'
-one_before line line' text (inl a) (inl b) = (same_from_push line line' 13 13 (sym a ∙ b)).0
-one_before line line' text (inl a) (inr b) = absurd (b.1 line a)
-one_before line line' text (inr a) (inl b) = absurd (a.1 line' b)
-one_before line line' text (inr a) (inr b) = sym a.0 ∙ b.0
+one_before line line' text given given' = grind (arith, same_from_push)
 
 none_within : (text rest : List ℕ) → HasNone 10 (text ++ 10 ∷ rest) → ⊥
 none_within [] rest none = none.0 refl
@@ -156,8 +153,7 @@ one_cut bytes (line ∷ lines) [] (inr a) b = absurd (a.1 (sym a.0 ∙ b))
 one_cut bytes (line ∷ lines) (line' ∷ lines') (inl a) (inl b) =
     let parted = one_parting 10 a.0 b.0 (10 ∷ a.1) (10 ∷ b.1) a.3 b.3 (inr (a.1, refl)) (inr (b.1, refl)) (sym a.2 ∙ b.2) in
     let first : line ≡ line' = one_before line line' b.0 (subst (IsBefore line) parted.0 a.4) b.4 in
-    let behind : a.1 ≡ b.1 = let h : 10 ∷ a.1 ≡ 10 ∷ b.1 = parted.1 in cc in
-    let rest : lines ≡ lines' = one_cut b.1 lines lines' (subst (λ bytes'. AreLines bytes' lines) behind a.5) b.5 in
+    let rest : lines ≡ lines' = one_cut b.1 lines lines' (subst (λ bytes'. AreLines bytes' lines) (let h : 10 ∷ a.1 ≡ 10 ∷ b.1 = parted.1 in cc) a.5) b.5 in
     cc
 one_cut bytes (line ∷ lines) (line' ∷ lines') (inl a) (inr b) = absurd (none_within a.0 a.1 (subst (HasNone 10) (sym b.0 ∙ a.2) b.2))
 one_cut bytes (line ∷ lines) (line' ∷ lines') (inr a) (inl b) = absurd (none_within b.0 b.1 (subst (HasNone 10) (sym a.0 ∙ b.2) a.2))

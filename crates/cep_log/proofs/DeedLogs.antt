@@ -1,5 +1,5 @@
 -- What is written of deeds is a transcript, and its log holds them.
-use Rattle.std.proofs.Common.{◌≡◌, ℕ, ◌+◌, ◌≤◌, Bool, true, false, List, [], ◌∷◌, ◌++◌, length, map, refl, sym, ap, ◌∙◌, subst, arith, Option, None, Some, IfSome, IsSomeAnd}
+use Rattle.std.proofs.Common.{◌≡◌, ℕ, ◌+◌, ◌≤◌, Bool, List, [], ◌∷◌, ◌++◌, length, map, refl, sym, ap, ◌∙◌, subst, arith, Option, Some, IfSome, IsSomeAnd}
 use Rattle.std.specs.Prelude.{is_some}
 use Rattle.std.specs.List.{AllZip, flat_map}
 use Rattle.std.specs.FinMap as finite
@@ -36,12 +36,10 @@ both_written one other lines others here there = rw (here, there, flat_map-appen
 -- Steps hold the deeds that they are of.
 
 mid_holds : (expected : Bool) (state : Multiset) → IfSome (mid_if expected state) (λ (mid : LogMid). mid.state ≡ finite.entries state)
-mid_holds true state = refl
-mid_holds false state = tt
+mid_holds expected state = grind arith
 
 mid_is : (expected : Bool) (state : Multiset) → is_some (mid_if expected state) ≡ expected
-mid_is true state = refl
-mid_is false state = refl
+mid_is expected state = grind arith
 
 held : (deeds : List Deed) → AllZip HoldsDeed deeds (map step_of deeds)
 held [] = tt
@@ -50,12 +48,9 @@ held (deed ∷ deeds) = grind (arith, mid_holds, deed.after.turns, deed.after.sp
 -- A log that says the same holds the same.
 
 mid_too : (one other : Option LogMid) (entries : List (AtomTree × ℕ)) → ListTheSame one other → IfSome one (λ (mid : LogMid). mid.state ≡ entries) → IfSome other (λ (mid : LogMid). mid.state ≡ entries)
-mid_too None None entries same holds = tt
-mid_too (Some one) (Some other) entries same holds = sym same ∙ holds
-mid_too _ _ entries same holds = absurd same
+mid_too one other entries same holds = grind arith
 
 held_too : (deeds : List Deed) (steps others : List LogStep) → AllZip HoldsDeed deeds steps → AllZip SayTheSame steps others → AllZip HoldsDeed deeds others
-held_too [] [] [] hold same = tt
 held_too (deed ∷ deeds) (step ∷ steps) (other ∷ others) hold same =
     let does = same.0.does in (
       record {
@@ -66,13 +61,10 @@ held_too (deed ∷ deeds) (step ∷ steps) (other ∷ others) hold same =
       },
       held_too deeds steps others hold.1 same.1,
     )
-held_too [] [] (other ∷ others) hold same = absurd same
-held_too (deed ∷ deeds) (step ∷ steps) [] hold same = absurd same
-held_too _ _ others hold same = absurd hold
+held_too deeds steps others hold same = grind arith
 
 end_too : (one : LogEnd) (end : Option LogEnd) (word : EndWord) (state : Multiset) → HoldsEnd word state one → EndTheSame (Some one) end → IsSomeAnd end (HoldsEnd word state)
-end_too one None word state holds same = absurd same
-end_too one (Some other) word state holds same = record { word_is = sym same.0 ∙ holds.word_is; state_is = sym same.1 ∙ holds.state_is }
+end_too one end word state holds same = grind arith
 
 module _ (program : Parts) (height : ℕ) where
   -- Bytes that tell deeds, line by line, where the first deed has this number.

@@ -1,5 +1,5 @@
 -- A log that holds lawful deeds is legal.
-use Rattle.std.proofs.Common.{◌≡◌, ◌↔◌, ℕ, ◌<◌, ◌≤◌, List, [], ◌∷◌, length, refl, sym, ◌∙◌, subst, arith, Option, None, Some, IfSome, IsSome, IsSomeAnd}
+use Rattle.std.proofs.Common.{◌≡◌, ◌↔◌, ℕ, ◌<◌, ◌≤◌, List, ◌∷◌, length, sym, ◌∙◌, subst, arith, Option, None, Some, IfSome, IsSome, IsSomeAnd}
 use Rattle.std.specs.List.{AllByRecursion, AllZip}
 use Rattle.std.specs.FinMap as finite
 use Rattle.std.proofs.lemmas.List.{length-map}
@@ -36,15 +36,12 @@ use Rattle.cep_rule.specs.Steps.{MakesFit}
 
 -- as many are proved as there are derivations
 pub as_many_proofs : (program : Parts) (height : ℕ) (proofs : List ProofTree) (atoms : List AtomTree) → AreProofs program height proofs atoms → length proofs ≡ length atoms
-as_many_proofs program height [] [] are = refl
-as_many_proofs program height [] (a ∷ atoms) are = absurd are
-as_many_proofs program height (proof ∷ proofs) [] are = absurd are
 as_many_proofs program height (proof ∷ proofs) (a ∷ atoms) are = let later = as_many_proofs program height proofs atoms are.2 in omega (arith, later)
+as_many_proofs program height proofs atoms are = grind arith
 
 low_proofs : (program : Parts) (height most : ℕ) → height ≤ most → (proofs : List ProofTree) (atoms : List AtomTree) → AreProofs program height proofs atoms → AllByRecursion (λ proof. proof_height proof ≤ most) proofs
-low_proofs program height most low [] atoms are = tt
-low_proofs program height most low (proof ∷ proofs) [] are = absurd are
 low_proofs program height most low (proof ∷ proofs) (a ∷ atoms) are = ((let here = are.1 in omega (arith, low, here)), (low_proofs program height most low proofs atoms are.2))
+low_proofs program height most low proofs atoms are = grind arith
 
 -- Where a spot stands, its state is one of the program's, and fits.
 pub record IsKept (program : Parts) (spot : Spot) : Type 0 where
@@ -57,8 +54,7 @@ AreListings program = (state : Multiset) → IsState program.signature state →
 
 -- a listing that is a state's is a listing
 mid_listing : (program : Parts) (found : Option LogMid) (state : Multiset) → IsListing program.signature (finite.entries state) → IfSome found (λ (mid : LogMid). mid.state ≡ finite.entries state) → IfSome found (λ (mid : LogMid). IsListing program.signature mid.state)
-mid_listing program None state is same = tt
-mid_listing program (Some mid) state is same = subst (IsListing program.signature) (sym same) is
+mid_listing program found state is same = grind arith
 
 -- Steps that make fit atoms lead from states to states.
 abbrev pub LeadToStates : Type 0
@@ -102,9 +98,6 @@ module _ (lead : LeadToStates) (program : Parts) (kept : IsProgram program) (hei
     kept_last : IsKept program last
 
   held_steps : AreListings program → (at : Position) (deeds : List Deed) (last : Position) (steps : List LogStep) → AreDeeds program height at deeds last → AllZip HoldsDeed deeds steps → IsKept program at.spot → AreHeld steps at.spot last.spot
-  held_steps listing_of at [] last [] done all before = grind arith
-  held_steps listing_of at [] last (step ∷ steps) done all before = absurd all
-  held_steps listing_of at (deed ∷ deeds) last [] done all before = absurd all
   held_steps listing_of at (deed ∷ deeds) last (step ∷ steps) done all before =
       let machine = subst (λ (here : Position). IsMachineStep program height here.spot deed.after.spot step.offer deed.rule step.proofs) done.0 (held_step deed step done.1 all.0) in
       let after = step_keeps at.spot deed.after.spot step.offer deed.rule step.proofs machine before in
@@ -114,6 +107,7 @@ module _ (lead : LeadToStates) (program : Parts) (kept : IsProgram program) (hei
         legal = (deed.after.spot, (record { rule = deed.rule; machine = machine; stage = all.0.stage; mid = all.0.mid }), later.legal);
         kept_last = later.kept_last;
       }
+  held_steps listing_of at deeds last steps done all before = grind arith
 
   -- Ends
 
@@ -133,8 +127,7 @@ module _ (lead : LeadToStates) (program : Parts) (kept : IsProgram program) (hei
     ends_listed (Some end) ended = listed_end end ended
 
     ends_legal : (end : Option LogEnd) → IsSomeAnd end (HoldsEnd word last.spot.state) → IsSomeAnd end (IsLegalEnd program height last.spot)
-    ends_legal None ended = absurd ended
-    ends_legal (Some end) ended = legal_end end ended
+    ends_legal end ended = grind (arith, legal_end)
 
     pub legal_log : log.lines ≤ MOST_LOG → length log.steps ≤ log.lines → IsLegal program log
     legal_log lines few = record {

@@ -1,5 +1,5 @@
 -- What lines of each kind say.
-use Rattle.std.proofs.Common.{◌≡◌, ℕ, zero, suc, ◌<◌, ◌≤◌, ◌^◌, List, [], ◌∷◌, ◌++◌, length, Bool, true, false, Option, Some, None, bytes_eq, refl, sym, ap, ◌∙◌, arith}
+use Rattle.std.proofs.Common.{◌≡◌, ℕ, suc, ◌<◌, ◌≤◌, ◌^◌, List, ◌∷◌, ◌++◌, length, Bool, true, false, Option, Some, None, bytes_eq, refl, sym, ap, ◌∙◌, arith}
 use Rattle.std.specs.Prelude.{codes, decimal, slice_get, MatchOption, Contains, IsTrue, not, ◌↔◌}
 use Rattle.std.proofs.lemmas.Fmt.{decimal_injective}
 use Rattle.std.proofs.lemmas.Slice.Eq.{bytes_eq-Decides}
@@ -16,12 +16,10 @@ use Rattle.cep_log.proofs.Parted.{HasNone, Stops, one_parting}
 use Rattle.cep_log.proofs.Once.{decimal_unspaced, one_count}
 
 pub match_none : {A : Type 0} (r : Option A) (P : Type 0) (Q : A → Type 0) → r ≡ None → P → MatchOption r P Q
-match_none None P Q e p = p
-match_none (Some x) P Q e p = absurd cc
+match_none r P Q e p = grind arith
 
 pub told_none : {A : Type 0} (r : Option A) (P : Type 0) → r ≡ None → MatchOption r P (λ x. Unit {0}) → P
-told_none None P e p = p
-told_none (Some x) P e p = absurd cc
+told_none r P e p = grind arith
 
 -- what stands after the first word of a line of a listing
 pub counted_as : (line rest word behind : List ℕ) (count : ℕ) (text : List ℕ) → line ≡ codes "have " ++ rest → rest ≡ word ++ behind → HasNone 32 word → Stops 32 behind → count ≤ MOST_COPIES → line ≡ codes "have " ++ (decimal count ++ 32 ∷ text)
@@ -41,9 +39,8 @@ high_as line word height is said = grind arith
 
 -- a place within a list has an item
 none_at : {A : Type 0} (xs : List A) (i : ℕ) → i < length xs → slice_get xs i ≡ None → ⊥
-none_at [] i within e = omega arith
-none_at (x ∷ xs) zero within e = absurd cc
 none_at (x ∷ xs) (suc i) within e = none_at xs i (omega arith) e
+none_at xs i within e = grind arith
 
 -- the stage that the line names
 stage_told : (program : Parts) (line name : List ℕ) (stage : ℕ) → line ≡ codes "stage " ++ name → IsStageNamed program.stages stage name → IsStageLine program line stage
@@ -78,8 +75,7 @@ named_as program line rest word behind is cut none stops found tells = (there fo
   back true tells unknown =
       let some = tells.0 refl in
       let h : codes "step " ++ rest ≡ codes "step " ++ (unknown.name ++ unknown.rest) = sym is ∙ unknown.begins in
-      let same : rest ≡ unknown.name ++ unknown.rest = cc in
-      let names : word ≡ unknown.name = (one_parting 32 word unknown.name behind unknown.rest none unknown.unspaced stops unknown.cut (sym cut ∙ same)).0 in
+      let names : word ≡ unknown.name = (one_parting 32 word unknown.name behind unknown.rest none unknown.unspaced stops unknown.cut (sym cut ∙ cc)).0 in
       absurd (unknown.unknown some.0 some.1 (some.2 ∙ names))
 
 -- the number of the listing that the line begins

@@ -1,5 +1,5 @@
 -- The lines that are written of a log can each be written as one line.
-use Rattle.std.proofs.Common.{◌≡◌, ◌≢◌, ℕ, ◌<◌, ◌==◌, ◌&&◌, not, List, [], ◌∷◌, ◌++◌, map, Bool, true, false, Option, Some, None, refl, sym, ap, ◌∙◌}
+use Rattle.std.proofs.Common.{◌≡◌, ◌≢◌, ℕ, ◌<◌, ◌==◌, ◌&&◌, not, List, [], ◌∷◌, ◌++◌, map, Bool, true, false, Option, refl, sym, ap, ◌∙◌, arith}
 use Rattle.std.specs.Prelude.{codes, decimal, slice_get, IfSome, length}
 use Rattle.std.specs.List.{AllByRecursion}
 use Rattle.std.proofs.lemmas.Bool.{and_parts}
@@ -12,9 +12,7 @@ use Rattle.cep_rule.specs.Shapes.{IsOfferOf}
 use Rattle.cep_rule.specs.Program.{IsProgram}
 use Rattle.cep_text.specs.Texts.{atom_text, offer_text, proof_text}
 use Rattle.cep_lines.specs.declared.version.Version.{Version}
-use Rattle.cep_lines.specs.declared.version.Version.TheVariants.{One, Two}
 use Rattle.cep_lines.specs.declared.end_word.EndWord.{EndWord}
-use Rattle.cep_lines.specs.declared.end_word.EndWord.TheVariants.{Quiet, Input, Turns, Offers, Typed, Atom, State}
 use Rattle.cep_lines.specs.Lines.{version_text, height_text, stage_name, stage_text, have_text, step_text, by_text, state_text, end_text}
 use Rattle.cep_log.specs.declared.log.LogMid.{LogMid}
 use Rattle.cep_log.specs.declared.log.LogEnd.{LogEnd}
@@ -37,9 +35,7 @@ not_plain bad byte fails plain same = let both : false ≡ true = sym fails ∙ 
 
 literal : (bytes : List ℕ) → all_plain bytes ≡ true → IsOneLine bytes
 literal [] all = tt
-literal (byte ∷ bytes) all =
-    let parts = and_parts (is_plain byte) (all_plain bytes) all in
-    ((not_plain 10 byte refl parts.0, not_plain 13 byte refl parts.0), literal bytes parts.1)
+literal (byte ∷ bytes) all = ((not_plain 10 byte refl (and_parts (is_plain byte) (all_plain bytes) all).0, not_plain 13 byte refl (and_parts (is_plain byte) (all_plain bytes) all).0), literal bytes (and_parts (is_plain byte) (all_plain bytes) all).1)
 
 joined : (one other : List ℕ) → IsOneLine one → IsOneLine other → IsOneLine (one ++ other)
 joined one other here there = both_all (λ byte. (byte ≢ 10) × (byte ≢ 13)) one other here there
@@ -47,8 +43,7 @@ joined one other here there = both_all (λ byte. (byte ≢ 10) × (byte ≢ 13))
 -- Lines that are made of words and numbers.
 
 pub version_one : (version : Version) → IsOneLine (version_text version)
-version_one One = literal (codes "ceptre 1") refl
-version_one Two = literal (codes "ceptre 2") refl
+version_one version = grind (arith, literal)
 
 pub height_one : (height : ℕ) → IsOneLine (height_text height)
 height_one height = joined (codes "height ") (decimal height) (literal (codes "height ") refl) (decimal_one height)
@@ -57,13 +52,7 @@ state_one : (number : ℕ) → IsOneLine (state_text number)
 state_one number = joined (codes "state ") (decimal number) (literal (codes "state ") refl) (decimal_one number)
 
 end_one : (word : EndWord) → IsOneLine (end_text word)
-end_one Quiet = literal (codes "end quiet") refl
-end_one Input = literal (codes "end input") refl
-end_one Turns = literal (codes "end turns") refl
-end_one Offers = literal (codes "end offers") refl
-end_one Typed = literal (codes "end typed") refl
-end_one Atom = literal (codes "end atom") refl
-end_one State = literal (codes "end state") refl
+end_one word = grind (arith, literal)
 
 -- Lines that are made of parts of a program.
 
@@ -89,13 +78,10 @@ module _ (program : Parts) (is : IsProgram program) where
   bys_one (proof ∷ proofs) all = (joined (codes "by ") (proof_text program proof) (literal (codes "by ") refl) (proof_one program is proof all.0.of_clauses), bys_one proofs all.1)
 
   pub stages_one : (stage : Option ℕ) → IfSome stage (λ stage. stage < length program.stages) → AllByRecursion IsOneLine (stage_texts program stage)
-  stages_one None within = tt
-  stages_one (Some stage) within = (stage_text_one stage within, tt)
+  stages_one stage within = grind (arith, stage_text_one)
 
   pub mids_one : (number : ℕ) (mid : Option LogMid) → IfSome mid (λ mid. IsListing program.signature mid.state) → AllByRecursion IsOneLine (mid_texts program number mid)
-  mids_one number None listing = tt
-  mids_one number (Some mid) listing = (state_one number, haves_one mid.state listing.each)
+  mids_one number mid listing = grind (arith, state_one, haves_one)
 
   pub ends_one : (end : Option LogEnd) → IfSome end (λ end. IsListing program.signature end.state) → AllByRecursion IsOneLine (end_texts program end)
-  ends_one None listing = tt
-  ends_one (Some end) listing = (end_one end.word, haves_one end.state listing.each)
+  ends_one end listing = grind (arith, end_one, haves_one)

@@ -3,8 +3,8 @@ use Rattle.std.proofs.Common.{◌≡◌, ◌⊎◌, inl, inr, ℕ, suc, ◌+◌,
 use Rattle.std.specs.Prelude.{slice_get, nat_le, is_none, is_some, IsSome, IfSome, IsSomeAnd, ◌↔◌, if◌then◌else◌}
 use Rattle.std.specs.List.{AllByRecursion}
 use Rattle.std.specs.declared.cmp.Ordering.TheVariants.{Less}
-use Rattle.std.proofs.lemmas.Bool.{false≢true, leb-true, le-leb}
-use Rattle.cep_base.proofs.Lists.{none_some, some_same}
+use Rattle.std.proofs.lemmas.Bool.{leb-true, le-leb}
+use Rattle.cep_base.proofs.Lists.{none_some, some_same, all_pushed}
 use Rattle.cep_base.specs.declared.limits.TheConstants.{MOST_HEIGHT}
 use Rattle.cep_term.specs.Tree.{AtomTree}
 use Rattle.cep_term.specs.Order.{atom_cmp}
@@ -27,17 +27,11 @@ use Rattle.cep_log.specs.Transcript.{IsByLine, IsStageLine, IsBehind, GoesOnList
 
 -- Listings
 
-all_pushed : {A : Type 0} (P : A → Type 0) (xs : List A) (x : A) → AllByRecursion P xs → P x → AllByRecursion P (xs ++ x ∷ [])
-all_pushed P [] x all this = (this, tt)
-all_pushed P (y ∷ xs) x all this = (all.0, all_pushed P xs x all.1 this)
-
 -- the atom stands after each that stands before the last
 abbrev pub Transitive : Type 0
 Transitive = (a b c : AtomTree) → atom_cmp a b ≡ Less → atom_cmp b c ≡ Less → atom_cmp a c ≡ Less
 
 behind_all : (through : Transitive) (entries : List (AtomTree × ℕ)) (atom : AtomTree) → AtomsRise entries → IsBehind entries atom → AllByRecursion (λ earlier. atom_cmp earlier.0 atom ≡ Less) entries
-behind_all through [] atom rise behind = tt
-behind_all through (entry ∷ []) atom rise behind = (behind, tt)
 behind_all through (entry ∷ next ∷ entries) atom rise behind =
     let later = behind_all through (next ∷ entries) atom rise.1 (moved entry next entries atom behind) in
     (through entry.0 next.0 atom rise.0.0 later.0, later) where
@@ -50,6 +44,7 @@ behind_all through (entry ∷ next ∷ entries) atom rise behind =
 
             less' : (n : ℕ) → suc n - 1 ≡ n
             less' n = omega arith
+behind_all through entries atom rise behind = grind arith
 
 rising_pushed : (entries : List (AtomTree × ℕ)) (entry : AtomTree × ℕ) → AtomsRise entries → AllByRecursion (λ earlier. atom_cmp earlier.0 entry.0 ≡ Less) entries → AtomsRise (entries ++ entry ∷ [])
 rising_pushed [] entry rise all = (tt, tt)
@@ -65,9 +60,7 @@ listing_more through program line old new is more =
 -- one step more has a listing where its number wants one
 listings_pushed : (version : Version) (number : ℕ) (steps : List LogStep) (step : LogStep) → HaveListings version number steps → is_some step.mid ≡ has_listing version (number + length steps) → HaveListings version number (steps ++ step ∷ [])
 listings_pushed version number [] step all this = (subst (λ (n : ℕ). is_some step.mid ≡ has_listing version n) (let none : length {A = LogStep} [] ≡ 0 = refl in omega arith) this, tt)
-listings_pushed version number (first ∷ steps) step all this =
-    let at : number + length (first ∷ steps) ≡ number + 1 + length steps = omega arith in
-    (all.0, listings_pushed version (number + 1) steps step all.1 (subst (λ (n : ℕ). is_some step.mid ≡ has_listing version n) at this))
+listings_pushed version number (first ∷ steps) step all this = (all.0, listings_pushed version (number + 1) steps step all.1 (subst (λ (n : ℕ). is_some step.mid ≡ has_listing version n) (omega arith) this))
 
 -- What was read of a log before the line of this number: no step is of this line or a later one.
 pub record IsPartOf (program : Parts) (number : ℕ) (log : Log) : Type 0 where
@@ -107,23 +100,13 @@ IsReadOf program number (Ended log end) = IsPartOf program number log × IsListi
 -- Own lines
 
 own_none : (next : Option ℕ) (stage : Option ℕ) (full : Bool) → stage ≡ None → (full && (is_none next || is_some stage)) ≡ true → (full ≡ true) × (IsSome stage ↔ IsSome next)
-own_none None stage false none t = absurd (false≢true t)
-own_none None None true none t = (refl, ((λ h. h), (λ h. h)))
-own_none None (Some s) true none t = absurd cc
-own_none (Some n) stage false none t = absurd (false≢true t)
-own_none (Some n) None true none t = absurd (false≢true t)
-own_none (Some n) (Some s) true none t = absurd cc
+own_none next stage full none t = grind arith
 
 lacks_stage : (next : Option ℕ) (full : Bool) → full ≡ true → (full && (is_none next || false)) ≡ false → IsSome next
-lacks_stage None true f t = absurd (false≢true (sym t))
-lacks_stage None false f t = absurd (false≢true f)
-lacks_stage (Some n) full f t = refl
+lacks_stage next full f t = grind arith
 
 has_stage : (next : Option ℕ) (full : Bool) (s : ℕ) → full ≡ true → (full && (is_none next || is_some (Some s))) ≡ true
-has_stage None true s f = refl
-has_stage None false s f = absurd (false≢true f)
-has_stage (Some n) true s f = refl
-has_stage (Some n) false s f = absurd (false≢true f)
+has_stage next full s f = grind arith
 
 le_tests : (m n : ℕ) → m ≤ n → nat_le m n ≡ true
 le_tests m n h = le-leb m n h
@@ -202,7 +185,6 @@ module _ (program : Parts) where
   begins_kept : (n : ℕ) (line : List ℕ) (log : Log) (new : SoFar) → IsPartOf program n log → log.end ≡ None → BeginsNext program n line log new → IsReadOf program (suc n) new
   begins_kept n line log new part unended (inl begins) =
       let values = subst (λ found. IsSomeAnd found (λ rule. AreValues program.signature.cons rule.kinds begins.offer.values)) begins.numbered begins.said.offer_is.of_rule in
-      let few = part.few in
       subst (IsReadOf program (suc n)) (sym begins.step)
       (pending n log (step_begun n begins.offer) begins.rule part unended (omega arith) begins.numbered values tt (omega arith) refl refl)
   begins_kept n line log new part unended (inr ends) = grind (arith, part_later, ends.ended)
@@ -255,18 +237,10 @@ module _ (program : Parts) where
 
   -- a line that is passed over leaves all as it is
   read_later : (n : ℕ) (so_far : SoFar) → IsReadOf program n so_far → IsReadOf program (suc n) so_far
-  read_later n Nothing is = tt
-  read_later n (Begun version) is = tt
-  read_later n (Height version height) is = is
-  read_later n (Whole log) is = (part_later n (suc n) log is.0 (omega arith), is.1)
-  read_later n (Within log step) is = (part_later n (suc n) log is.0 (omega arith), (is.1.0, (let h = is.1.1 in omega arith), is.1.2))
-  read_later n (Unlisted log step) is = (part_later n (suc n) log is.0 (omega arith), (is.1.0, (let h = is.1.1 in omega arith), is.1.2))
-  read_later n (Listed log step mid) is = (part_later n (suc n) log is.0 (omega arith), (is.1.0, (let h = is.1.1 in omega arith), is.1.2, is.1.3))
-  read_later n (Ended log end) is = (part_later n (suc n) log is.0 (omega arith), is.1)
+  read_later n so_far is = grind (arith, part_later)
 
   passes_kept : (through : Transitive) (n : ℕ) (line : List ℕ) (old new : SoFar) → IsReadOf program n old → MovesOn program n line old new → IsReadOf program (suc n) new
-  passes_kept through n line old new is (inl over) = subst (IsReadOf program (suc n)) (sym over.1) (read_later n old is)
-  passes_kept through n line old new is (inr takes) = takes_kept through n line old new is takes.1
+  passes_kept through n line old new is given = grind (arith, read_later, takes_kept)
 
   pub leads_kept : (through : Transitive) (n : ℕ) (lines : List (List ℕ)) (old new : SoFar) → IsReadOf program n old → Leads program n lines old new → IsReadOf program (n + length lines) new
   leads_kept through n [] old new is leads = subst (λ (m : ℕ). IsReadOf program m new) (omega arith) (subst (IsReadOf program n) (sym leads) is)
@@ -279,11 +253,4 @@ module _ (program : Parts) where
 
   -- The log that is said is of the program.
   pub said_is_of : (lines : ℕ) (last : SoFar) (log : Log) → lines ≤ MOST_LOG → IsReadOf program (1 + lines) last → said_by last lines ≡ Some log → IsLogOf program log
-  said_is_of lines Nothing log short is said = none_some log said
-  said_is_of lines (Begun version) log short is said = none_some log said
-  said_is_of lines (Height version height) log short is said = none_some log said
-  said_is_of lines (Within read step) log short is said = none_some log said
-  said_is_of lines (Unlisted read step) log short is said = none_some log said
-  said_is_of lines (Whole read) log short is said = grind (arith, some_same, whole_is_of, is.0, is.1)
-  said_is_of lines (Listed read step mid) log short is said = grind (arith, some_same, whole_is_of, with_listing, is.0, is.1.1, is.1.2, is.1.3, is.1.0)
-  said_is_of lines (Ended read end) log short is said = grind (arith, some_same, is.0.height, is.0.stage, is.0.start, is.0.steps, is.0.listed, is.1, is.0.few)
+  said_is_of lines last log short is said = grind (arith, none_some, some_same, whole_is_of, with_listing)

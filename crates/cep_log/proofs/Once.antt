@@ -1,5 +1,5 @@
 -- What a line says, and what was read with it, is one thing.
-use Rattle.std.proofs.Common.{◌≡◌, ◌≢◌, ◌⊎◌, inl, inr, ℕ, zero, suc, ◌+◌, ◌<◌, ◌≤◌, ◌^◌, ◌&&◌, List, [], ◌∷◌, ◌++◌, length, map, Bool, true, false, Some, refl, sym, ap, ◌∙◌, subst, arith, bytes_eq}
+use Rattle.std.proofs.Common.{◌≡◌, ◌≢◌, ◌⊎◌, inl, inr, ℕ, suc, ◌+◌, ◌<◌, ◌≤◌, ◌^◌, ◌&&◌, List, [], ◌∷◌, ◌++◌, length, map, Bool, true, false, Some, sym, ap, ◌∙◌, subst, arith, bytes_eq}
 use Rattle.std.specs.Prelude.{codes, decimal, slice_get}
 use Rattle.std.specs.Char.{is_ascii_digit}
 use Rattle.std.proofs.lemmas.Bool.{false≢true}
@@ -19,11 +19,9 @@ use Rattle.cep_rule.specs.Derivations.{ProofTree}
 use Rattle.cep_rule.specs.Shapes.{IsOfferOf, IsProofOf}
 use Rattle.cep_text.specs.Texts.{atom_text, offer_text, proof_text, IsTypedGround}
 use Rattle.cep_lines.specs.declared.end_word.EndWord.{EndWord}
-use Rattle.cep_lines.specs.declared.end_word.EndWord.TheVariants.{Quiet, Input, Turns, Offers, Typed, Atom, State}
 use Rattle.cep_log.specs.declared.log.Log.{Log}
 use Rattle.cep_log.specs.declared.log.LogStep.{LogStep}
 use Rattle.cep_lines.specs.declared.version.Version.{Version}
-use Rattle.cep_lines.specs.declared.version.Version.TheVariants.{One, Two}
 use Rattle.cep_log.specs.declared.so_far.SoFar.{SoFar}
 use Rattle.cep_log.specs.declared.so_far.SoFar.TheVariants.{Nothing, Begun, Height, Whole, Within, Unlisted, Listed, Ended}
 use Rattle.cep_lines.specs.Lines.{version_text, stage_name, ending_word}
@@ -36,14 +34,11 @@ no_space : (byte : ℕ) → is_ascii_digit byte ≡ true → byte ≢ 32
 no_space byte t e = let h : is_ascii_digit 32 ≡ true = subst (λ b. is_ascii_digit b ≡ true) e t in absurd (false≢true h)
 
 and_both : (a b : Bool) → (a && b) ≡ true → (a ≡ true) × (b ≡ true)
-and_both true b e = (refl, e)
-and_both false b e = absurd cc
+and_both a b e = grind arith
 
 digits_unspaced : (digits : List ℕ) → all_ascii_digits digits ≡ true → HasNone 32 digits
 digits_unspaced [] t = tt
-digits_unspaced (byte ∷ digits) t =
-    let parts = and_both (is_ascii_digit byte) (all_ascii_digits digits) t in
-    (no_space byte parts.0, digits_unspaced digits parts.1)
+digits_unspaced (byte ∷ digits) t = (no_space byte (and_both (is_ascii_digit byte) (all_ascii_digits digits) t).0, digits_unspaced digits (and_both (is_ascii_digit byte) (all_ascii_digits digits) t).1)
 
 pub decimal_unspaced : (n : ℕ) → n < 2 ^ 64 → HasNone 32 (decimal n)
 decimal_unspaced n short = digits_unspaced (decimal n) (digits_decimal (numerals_by_value (λ digits. all_ascii_digits digits ≡ true) tells_all_ascii_digits) n short)
@@ -55,34 +50,21 @@ one_count m n text text' a b e = grind (arith, one_parting, decimal_unspaced, de
 -- Names
 
 pub number_named : (names : List (List ℕ)) (i j : ℕ) (name : List ℕ) → AllDiffer names → slice_get names i ≡ Some name → slice_get names j ≡ Some name → i ≡ j
-number_named [] i j name differ a b = none_some name a
-number_named (first ∷ names) zero zero name differ a b = refl
-number_named (first ∷ names) zero (suc j) name differ a b = grind (arith, holds_at, some_same, differ.0)
-number_named (first ∷ names) (suc i) zero name differ a b = grind (arith, holds_at, some_same, differ.0)
 number_named (first ∷ names) (suc i) (suc j) name differ a b = ap suc (number_named names i j name differ.1 a b)
+number_named names i j name differ a b = grind (arith, none_some, holds_at, some_same)
 
 stage_there : (stages : List Stage) (i : ℕ) → i < length stages → slice_get (map (λ stage. stage.name) stages) i ≡ Some (stage_name (slice_get stages i))
-stage_there [] i h = absurd (omega arith)
-stage_there (stage ∷ stages) zero h = refl
 stage_there (stage ∷ stages) (suc i) h = stage_there stages i (omega arith)
+stage_there stages i h = grind arith
 
 words_apart : (a b : EndWord) → bytes_eq (ending_word a) (ending_word b) ≡ true → a ≡ b
-words_apart Quiet Quiet t = refl
-words_apart Input Input t = refl
-words_apart Turns Turns t = refl
-words_apart Offers Offers t = refl
-words_apart Typed Typed t = refl
-words_apart Atom Atom t = refl
-words_apart State State t = refl
-words_apart a b t = absurd (false≢true t)
+words_apart a b t = grind arith
 
 pub one_word : (a b : EndWord) → ending_word a ≡ ending_word b → a ≡ b
 one_word a b e = words_apart a b ((bytes_eq-Decides (ending_word a) (ending_word b)).1 e)
 
 versions_apart : (a b : Version) → bytes_eq (version_text a) (version_text b) ≡ true → a ≡ b
-versions_apart One One t = refl
-versions_apart Two Two t = refl
-versions_apart a b t = absurd (false≢true t)
+versions_apart a b t = grind arith
 
 one_version : (a b : Version) → version_text a ≡ version_text b → a ≡ b
 one_version a b e = versions_apart a b ((bytes_eq-Decides (version_text a) (version_text b)).1 e)
@@ -117,11 +99,8 @@ module _ (program : Parts) (laws : OneValue program) where
   pub one_have : (line : List ℕ) (e f : AtomTree × ℕ) → IsHaveLine program line e → IsHaveLine program line f → e ≡ f
   one_have line e f a b =
       let h : codes "have " ++ (decimal e.1 ++ (32 ∷ a.text)) ≡ codes "have " ++ (decimal f.1 ++ (32 ∷ b.text)) = sym a.written ∙ b.written in
-      let behind : decimal e.1 ++ (32 ∷ a.text) ≡ decimal f.1 ++ (32 ∷ b.text) = cc in
-      let parts = one_count e.1 f.1 a.text b.text a.few b.few behind in
-      let atoms : e.0 ≡ f.0 = laws.atoms e.0 f.0 a.atom.well_typed b.atom.well_typed (sym a.atom.text ∙ (parts.1 ∙ b.atom.text)) in
-      let counts : e.1 ≡ f.1 = parts.0 in
-      λ i. (atoms i, counts i)
+      let parts = one_count e.1 f.1 a.text b.text a.few b.few cc in
+      λ i. ((laws.atoms e.0 f.0 a.atom.well_typed b.atom.well_typed (sym a.atom.text ∙ (parts.1 ∙ b.atom.text))) i, parts.0 i)
 
   pub one_step : (line : List ℕ) (o p : Offer) → IsStepLine program line o → IsStepLine program line p → o ≡ p
   one_step line o p a b = grind (arith, a.text, b.text, a.written, b.written, laws.offers, a.offer_is.of_rule, b.offer_is.of_rule, a.offer_is.text, b.offer_is.text)
@@ -161,8 +140,7 @@ module _ (program : Parts) (laws : OneValue program) where
 
   -- a line of a listing begins neither a step nor the end
   listed_or_next : (number : ℕ) (line : List ℕ) (old more : List (AtomTree × ℕ)) (log : Log) (new : SoFar) → GoesOnListing program line old more → BeginsNext program number line log new → ⊥
-  listed_or_next number line old more log new goes (inl begins) = have_or_step _ _ (sym goes.said.written ∙ begins.said.written)
-  listed_or_next number line old more log new goes (inr ends) = have_or_end _ _ (sym goes.said.written ∙ ends.said)
+  listed_or_next number line old more log new goes given = grind (arith, have_or_step, have_or_end)
 
   one_next : (number : ℕ) (line : List ℕ) (log : Log) (new new' : SoFar) → BeginsNext program number line log new → BeginsNext program number line log new' → new ≡ new'
   one_next number line log new new' (inl a) (inl b) = one_begun number line log new new' a b
@@ -187,12 +165,8 @@ module _ (program : Parts) (laws : OneValue program) where
   one_taken number line (Ended log end) new new' a b = a.ended ∙ (ap (λ state. Ended log (record end { state = state })) (one_listing line end.state a.state b.state a.listed b.listed) ∙ sym b.ended)
 
   pub one_passed : (number : ℕ) (line : List ℕ) (old new new' : SoFar) → MovesOn program number line old new → MovesOn program number line old new' → new ≡ new'
-  one_passed number line old new new' (inl a) (inl b) = a.1 ∙ sym b.1
-  one_passed number line old new new' (inl a) (inr b) = absurd (b.0 a.0)
-  one_passed number line old new new' (inr a) (inl b) = absurd (a.0 b.0)
-  one_passed number line old new new' (inr a) (inr b) = one_taken number line old new new' a.1 b.1
+  one_passed number line old new new' given given' = grind (arith, one_taken)
 
   pub one_way : (number : ℕ) (lines : List (List ℕ)) (old new new' : SoFar) → Leads program number lines old new → Leads program number lines old new' → new ≡ new'
   one_way number [] old new new' a b = a ∙ sym b
-  one_way number (line ∷ lines) old new new' a b =
-      one_way (number + 1) lines b.0 new new' (subst (λ next. Leads program (number + 1) lines next new) (one_passed number line old a.0 b.0 a.1 b.1) a.2) b.2
+  one_way number (line ∷ lines) old new new' a b = rw (one_way (number + 1) lines b.0 new new' (subst (λ next. Leads program (number + 1) lines next new) (one_passed number line old a.0 b.0 a.1 b.1) a.2) b.2)

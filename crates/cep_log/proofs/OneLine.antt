@@ -21,6 +21,7 @@ use Rattle.cep_text.specs.Texts.{con_name, pred_name, offer_name, rule_vars, cla
 use Rattle.cep_rule.specs.declared.parts.Stage.{Stage}
 use Rattle.cep_lines.specs.Lines.{line, stage_name}
 use Rattle.cep_log.specs.Transcript.{AreLines, IsOneLine}
+use Rattle.cep_base.proofs.Options.{some_there as some_con}
 
 -- Bytes
 
@@ -51,8 +52,7 @@ decimal_one n = onto_one 64 10 false n [] tt
 -- Names
 
 pub name_one : (name : List ℕ) → IsName name → IsOneLine name
-name_one [] is = tt
-name_one (byte ∷ bytes) is = (lower_byte byte is.word.0, all_weaker (λ next. IsTrue (is_name_byte next)) (λ next. (next ≢ 10) × (next ≢ 13)) bytes name_byte is.word.1)
+name_one name is = grind (arith, lower_byte, all_weaker, name_byte)
 
 variable_one : (name : List ℕ) → IsVariableName name → IsOneLine name
 variable_one name is = cases name is.word where
@@ -62,9 +62,8 @@ variable_one name is = cases name is.word where
   cases (byte ∷ bytes) (inr blank) = subst IsOneLine (sym blank.1) (((λ e. omega arith), (λ e. omega arith)), decimal_one blank.0)
 
 named_one : {X : Type 0} (name_of : X → List ℕ) (xs : List X) (i : ℕ) (x : X) → AllByRecursion IsName (map name_of xs) → slice_get xs i ≡ Some x → IsOneLine (name_of x)
-named_one name_of [] i x all e = none_some x e
-named_one name_of (y ∷ xs) zero x all e = subst (λ z. IsOneLine (name_of z)) (some_same y x e) (name_one (name_of y) all.0)
 named_one name_of (y ∷ xs) (suc i) x all e = named_one name_of xs i x all.1 e
+named_one name_of xs i x all e = grind (arith, none_some, some_same, name_one)
 
 -- Terms and atoms
 
@@ -72,12 +71,7 @@ space_one : (text : List ℕ) → IsOneLine text → IsOneLine (32 ∷ text)
 space_one text one = (((λ e. omega arith), (λ e. omega arith)), one)
 
 enclosed_one : (args : Trees) (text : List ℕ) → IsOneLine text → IsOneLine (enclosed args text)
-enclosed_one none text one = one
-enclosed_one (more t rest) text one = (((λ e. omega arith), (λ e. omega arith)), both text (41 ∷ []) one (((λ e. omega arith), (λ e. omega arith)), tt))
-
-some_con : {X : Type 0} (o : Option X) (P : X → Type 0) → IsSomeAnd o P → (x : X) × (o ≡ Some x) × P x
-some_con None P h = absurd h
-some_con (Some x) P h = (x, refl, h)
+enclosed_one args text one = grind (arith, both)
 
 module _ (signature : Signature) (cons : AllByRecursion IsName (map (λ con. con.name) signature.cons)) where
   mutual
@@ -96,13 +90,11 @@ module _ (signature : Signature) (cons : AllByRecursion IsName (map (λ con. con
 
   -- what variables are given
   givens_one : (names : List (List ℕ)) (kinds : List ℕ) (values : List Tree) → AllByRecursion IsVariableName names → AreValues signature.cons kinds values → IsOneLine (all_given_text signature names values)
-  givens_one [] kinds values all are = tt
-  givens_one (name ∷ names) kinds [] all are = tt
-  givens_one (name ∷ names) [] (value ∷ values) all are = absurd are
   givens_one (name ∷ names) (kind ∷ kinds) (value ∷ values) all are =
       both (given_text signature name value) (all_given_text signature names values)
       (space_one (name ++ (61 ∷ term_text signature value)) (both name (61 ∷ term_text signature value) (variable_one name all.0) (((λ e. omega arith), (λ e. omega arith)), term_one value [] kind are.0.ground are.0.typed)))
       (givens_one names kinds values all.1 are.1)
+  givens_one names kinds values all are = grind arith
 
 module _ (program : Parts) (is : IsProgram program) where
   cons_named : AllByRecursion IsName (map (λ con. con.name) program.signature.cons)

@@ -1,5 +1,5 @@
 -- What a log is renewed into has one text.
-use Rattle.std.proofs.Common.{◌≡◌, ℕ, ◌+◌, Bool, false, true, List, [], ◌∷◌, Option, Some, None, sym, ap, ◌∙◌, subst}
+use Rattle.std.proofs.Common.{◌≡◌, ℕ, ◌+◌, Bool, List, ◌∷◌, Option, sym, ap, ◌∙◌, subst, arith}
 use Rattle.std.specs.Prelude.{slice_get, is_some, IfSome}
 use Rattle.std.specs.List.{AllZip}
 use Rattle.std.specs.FinMap as finite
@@ -25,38 +25,23 @@ use Rattle.cep_log.proofs.SameLogs.{same_text}
 
 -- two that are as a third are as each other
 do_both : (steps one other : List LogStep) → AllZip DoTheSame steps one → AllZip DoTheSame steps other → AllZip DoTheSame one other
-do_both [] [] [] first second = tt
-do_both [] [] (step ∷ other) first second = absurd second
-do_both [] (step ∷ one) other first second = absurd first
-do_both (step ∷ steps) [] other first second = absurd first
-do_both (step ∷ steps) (step' ∷ one) [] first second = absurd second
 do_both (step ∷ steps) (step' ∷ one) (step'' ∷ other) first second = (
   (record { offer = sym first.0.offer ∙ second.0.offer; proofs = sym first.0.proofs ∙ second.0.proofs; stage = sym first.0.stage ∙ second.0.stage }),
   (do_both steps one other first.1 second.1),
 )
+do_both steps one other first second = grind arith
 
 ends_both : (end one other : Option LogEnd) → EndTheSame end one → EndTheSame end other → EndTheSame one other
-ends_both None None None first second = tt
-ends_both None None (Some other) first second = absurd second
-ends_both None (Some one) other first second = absurd first
-ends_both (Some end) None other first second = absurd first
-ends_both (Some end) (Some one) None first second = absurd second
-ends_both (Some end) (Some one) (Some other) first second = (sym first.0 ∙ second.0, sym first.1 ∙ second.1)
+ends_both end one other first second = grind arith
 
 -- both list the state, where one is due
 list_both : (due : Bool) (one other : Option LogMid) (entries : List (AtomTree × ℕ)) → is_some one ≡ due → is_some other ≡ due
     → IfSome one (λ (mid : LogMid). mid.state ≡ entries) → IfSome other (λ (mid : LogMid). mid.state ≡ entries) → ListTheSame one other
-list_both due None None entries there there' is is' = tt
-list_both due None (Some other) entries there there' is is' = let no : false ≡ true = there ∙ sym there' in absurd cc
-list_both due (Some one) None entries there there' is is' = let no : true ≡ false = there ∙ sym there' in absurd cc
-list_both due (Some one) (Some other) entries there there' is is' = is ∙ sym is'
+list_both due one other entries there there' is is' = grind arith
 
 module _ (one_state : (signature : Signature) (rule : Rule) (values : List Tree) (old one other : Multiset) → Step signature rule values old one → Step signature rule values old other → one ≡ other) (program : Parts) where
   say_both : (height : ℕ) (number : ℕ) (one other : List LogStep) (old last last' : Spot) → AllZip DoTheSame one other → AreLegalSteps program height one old last → AreLegalSteps program height other old last'
       → HaveListings Two number one → HaveListings Two number other → AllZip SayTheSame one other
-  say_both height number [] [] old last last' same legal legal' have have' = tt
-  say_both height number [] (step ∷ other) old last last' same legal legal' have have' = absurd same
-  say_both height number (step ∷ one) [] old last last' same legal legal' have have' = absurd same
   say_both height number (step ∷ one) (step' ∷ other) old last last' same legal legal' have have' =
       let is = legal.1 in
       let is' = legal'.1 in
@@ -72,6 +57,7 @@ module _ (one_state : (signature : Signature) (rule : Rule) (values : List Tree)
         (record { does = same.0; lists = list_both (has_listing Two number) step.mid step'.mid (finite.entries legal.0.state) have.0 have'.0 is.mid listed' }),
         (say_both height (number + 1) one other legal.0 last last' same.1 legal.2 (subst (λ (spot : Spot). AreLegalSteps program height other spot last') (sym spots) legal'.2) have.1 have'.1),
       )
+  say_both height number one other old last last' same legal legal' have have' = grind arith
 
   pub renewals_same : (old one other : Log) → IsRenewal program old one → IsRenewal program old other → text_of program one ≡ text_of program other
   renewals_same old one other is is' =

@@ -1,5 +1,5 @@
 -- Bytes that are parted at the first of some byte.
-use Rattle.std.proofs.Common.{◌≡◌, ◌≢◌, ◌⊎◌, inl, inr, ℕ, List, [], ◌∷◌, ◌++◌, refl, sym, ap, ◌∙◌}
+use Rattle.std.proofs.Common.{◌≡◌, ◌≢◌, ◌⊎◌, inl, inr, ℕ, List, [], ◌∷◌, ◌++◌, refl, sym, ap, ◌∙◌, arith}
 use Rattle.std.specs.List.{AllByRecursion}
 use Rattle.std.proofs.lemmas.Bool.{cases_eq}
 
@@ -20,14 +20,8 @@ stops_not_within stop byte bytes rest other stops e = cases stops where
 -- two ways to part the same bytes are one
 pub one_parting : (stop : ℕ) (one other rest rest' : List ℕ) → HasNone stop one → HasNone stop other → Stops stop rest → Stops stop rest' → one ++ rest ≡ other ++ rest' → (one ≡ other) × (rest ≡ rest')
 one_parting stop [] [] rest rest' a b s t e = (refl, e)
-one_parting stop [] (y ∷ ys) rest rest' a b s t e = absurd (stops_not_within stop y (ys ++ rest') rest b.0 s e)
-one_parting stop (x ∷ xs) [] rest rest' a b s t e = absurd (stops_not_within stop x (xs ++ rest) rest' a.0 t (sym e))
-one_parting stop (x ∷ xs) (y ∷ ys) rest rest' a b s t e =
-    let head : x ≡ y = cc in
-    let tail : xs ++ rest ≡ ys ++ rest' = cc in
-    let more = one_parting stop xs ys rest rest' a.1 b.1 s t tail in
-    let same : xs ≡ ys = more.0 in
-    (cc, more.1)
+one_parting stop (x ∷ xs) (y ∷ ys) rest rest' a b s t e = grind (arith, one_parting stop xs ys rest rest' a.1 b.1 s t cc, (one_parting stop xs ys rest rest' a.1 b.1 s t cc).0)
+one_parting stop one other rest rest' a b s t e = grind (arith, stops_not_within)
 
 -- bytes are parted at the first stop byte, or have none
 pub parting : (stop : ℕ) (bytes : List ℕ) → ((text : List ℕ) × (rest : List ℕ) × (bytes ≡ text ++ stop ∷ rest) × HasNone stop text) ⊎ HasNone stop bytes

@@ -9,7 +9,7 @@ use Rattle.cep_rule.specs.declared.parts.Parts.{Parts}
 use Rattle.cep_log.specs.declared.log.Log.{Log}
 use Rattle.cep_base.specs.declared.limits.TheConstants.{MOST_LOG}
 use Rattle.cep_log.specs.declared.so_far.SoFar.{SoFar}
-use Rattle.cep_log.specs.declared.so_far.SoFar.TheVariants.{Nothing, Begun, Height, Whole, Within, Unlisted, Listed, Ended}
+use Rattle.cep_log.specs.declared.so_far.SoFar.TheVariants.{Nothing}
 use Rattle.cep_log.specs.declared.fault.LogFault.{LogFault}
 use Rattle.cep_log.specs.declared.fault.LogFault.TheVariants.{Line}
 use Rattle.cep_log.specs.Legal.{IsLogOf}
@@ -31,9 +31,7 @@ pub record HasPassed (program : Parts) (lines left : List (List ℕ)) (number : 
 
 leads_more : (program : Parts) (n : ℕ) (lines : List (List ℕ)) (line : List ℕ) (old mid new : SoFar) → Leads program n lines old mid → MovesOn program (n + length lines) line mid new → Leads program n (lines ++ line ∷ []) old new
 leads_more program n [] line old mid new leads passes = grind arith
-leads_more program n (first ∷ lines) line old mid new leads passes =
-    let at : n + length (first ∷ lines) ≡ n + 1 + length lines = omega arith in
-    (leads.0, leads.1, leads_more program (n + 1) lines line leads.0 mid new leads.2 (subst (λ (m : ℕ). MovesOn program m line mid new) at passes))
+leads_more program n (first ∷ lines) line old mid new leads passes = (leads.0, leads.1, leads_more program (n + 1) lines line leads.0 mid new leads.2 (subst (λ (m : ℕ). MovesOn program m line mid new) (omega arith) passes))
 
 pub passed_none : (program : Parts) (lines left : List (List ℕ)) → left ≡ lines → HasPassed program lines left 0 Nothing
 passed_none program lines left same = record { done = []; cut = sym same; leads = refl; counted = refl }
@@ -55,14 +53,7 @@ pub read_is_of : (through : Transitive) (program : Parts) (lines left : List (Li
 read_is_of through program lines left number so_far passed = grind (arith, leads_kept, passed.counted, passed.done, passed.leads)
 
 pub can_grow : (program : Parts) (number : ℕ) (so_far : SoFar) → number < MOST_LOG → IsReadOf program (1 + number) so_far → CanGrow program so_far
-can_grow program number Nothing short is = tt
-can_grow program number (Begun version) short is = tt
-can_grow program number (Height version height) short is = tt
-can_grow program number (Whole log) short is = let few = is.0.few in omega arith
-can_grow program number (Within log step) short is = ((let few = is.0.few in omega arith), slice_get_within program.rules step.offer.rule is.1.2.rule is.1.2.numbered)
-can_grow program number (Unlisted log step) short is = let few = is.0.few in omega arith
-can_grow program number (Listed log step mid) short is = let few = is.1.1 in omega arith
-can_grow program number (Ended log end) short is = tt
+can_grow program number so_far short is = grind (arith, slice_get_within)
 
 -- all lines were read
 all_done : (program : Parts) (lines : List (List ℕ)) (number : ℕ) (so_far : SoFar) → HasPassed program lines [] number so_far → Leads program 1 lines Nothing so_far × (number ≡ length lines)
@@ -76,8 +67,7 @@ log_said program bytes left number so_far log short passed none said =
 pub log_is_of : (through : Transitive) (program : Parts) (bytes : List ℕ) (left : List (List ℕ)) (number : ℕ) (so_far : SoFar) (log : Log) → length bytes ≤ MOST_LOG → HasPassed program (all_lines bytes) left number so_far → left ≡ [] → said_by so_far number ≡ Some log → IsLogOf program log
 log_is_of through program bytes left number so_far log short passed none said =
     let few = few_lines bytes in
-    let all = all_done program (all_lines bytes) number so_far (subst (λ rest. HasPassed program (all_lines bytes) rest number so_far) none passed) in
-    let counted = all.1 in
+    let counted = (all_done program (all_lines bytes) number so_far (subst (λ rest. HasPassed program (all_lines bytes) rest number so_far) none passed)).1 in
     said_is_of program number so_far log (omega arith) (read_is_of through program (all_lines bytes) left number so_far passed) said
 
 pub stops_said : (program : Parts) (bytes : List ℕ) (left : List (List ℕ)) (number : ℕ) (so_far : SoFar) → length bytes ≤ MOST_LOG → HasPassed program (all_lines bytes) left number so_far → left ≡ [] → said_by so_far number ≡ None → HasMisfit program bytes (Line (number + 1))

@@ -1,5 +1,5 @@
 -- The lines of steps and listings.
-use Rattle.std.proofs.Common.{◌≡◌, ◌⊎◌, inl, inr, ℕ, ◌<◌, ◌≤◌, List, [], ◌∷◌, ◌++◌, length, Option, Some, None, refl, sym, ap, ◌∙◌, subst, arith}
+use Rattle.std.proofs.Common.{◌≡◌, ◌⊎◌, inl, inr, ℕ, ◌<◌, ◌≤◌, List, [], ◌∷◌, ◌++◌, length, Option, Some, sym, ap, ◌∙◌, subst, arith}
 use Rattle.std.specs.Prelude.{slice_get, MatchOption, MatchResult, Result, Ok, Err}
 use Rattle.cep_base.proofs.Lists.{some_same}
 use Rattle.cep_term.specs.Tree.{AtomTree}
@@ -17,8 +17,7 @@ use Rattle.cep_log.specs.Transcript.{IsHaveLine, IsStepLine, IsByLine, IsEndLine
 use Rattle.cep_log.proofs.Once.{OneValue, one_have}
 
 pub told_some : {A : Type 0} (r : Option A) (x : A) (P : A → Type 0) → r ≡ Some x → MatchOption r (Unit {0}) P → P x
-told_some None x P e p = absurd cc
-told_some (Some y) x P e p = let same : y ≡ x = cc in subst P same p
+told_some r x P e p = grind arith
 
 -- the one line of a listing does not stand after the others
 pub listed_none : (program : Parts) (laws : OneValue program) (line : List ℕ) (entries : List (AtomTree × ℕ)) (entry other : AtomTree × ℕ) → IsHaveLine program line entry → ¬ (IsBehind entries entry.0) → IsHaveLine program line other → IsBehind entries other.0 → ⊥
@@ -73,17 +72,13 @@ stage_said program parts line log step rule stage new is at full said joined = r
 }
 
 pub not_some : {A : Type 0} (r : Option A) (P : Type 0) (Q : A → Type 0) → ((x : A) → r ≡ Some x → ⊥) → MatchOption r P Q → P
-not_some None P Q other p = p
-not_some (Some x) P Q other q = absurd (other x refl)
+not_some r P Q other q = grind arith
 
 pub none_weaker : {A : Type 0} (r : Option A) (P P' : Type 0) → (P → P') → MatchOption r P (λ x. Unit {0}) → MatchOption r P' (λ x. Unit {0})
-none_weaker None P P' f p = f p
-none_weaker (Some x) P P' f p = tt
+none_weaker r P P' f p = grind arith
 
 pub told_ok : {A E : Type 0} (r : Result A E) (x : A) (P : A → Type 0) → r ≡ Ok x → MatchResult r P (λ e. Unit {0}) → P x
-told_ok (Ok y) x P e p = let same : y ≡ x = cc in subst P same p
-told_ok (Err y) x P e p = absurd cc
+told_ok r x P e p = grind arith
 
 pub told_err : {A E : Type 0} (r : Result A E) (x : E) (P : E → Type 0) → r ≡ Err x → MatchResult r (λ e. Unit {0}) P → P x
-told_err (Ok y) x P e p = absurd cc
-told_err (Err y) x P e p = let same : y ≡ x = cc in subst P same p
+told_err r x P e p = grind arith

@@ -46,21 +46,17 @@ pub record StepLaws : Type 0 where
 
 module _ (laws : StepLaws) (program : Parts) (is : IsProgram program) (height : ℕ) (low : height ≤ MOST_HEIGHT) where
   all_readable : (proofs : List ProofTree) (atoms : List AtomTree) → AreProofs program height proofs atoms → AllByRecursion (IsReadable program) proofs
-  all_readable [] atoms are = tt
-  all_readable (proof ∷ proofs) [] are = absurd are
   all_readable (proof ∷ proofs) (a ∷ atoms) are = grind (arith, laws.shapes, are.0, laws.small_proofs, are.1, all_readable proofs atoms are.2, are.2)
+  all_readable proofs atoms are = grind arith
 
   all_derivable : (proofs : List ProofTree) (atoms : List AtomTree) → AreProofs program height proofs atoms → AllByRecursion (IsDerivable program height) atoms
-  all_derivable [] [] are = tt
-  all_derivable [] (a ∷ atoms) are = absurd are
-  all_derivable (proof ∷ proofs) [] are = absurd are
   all_derivable (proof ∷ proofs) (a ∷ atoms) are = (record { proof = proof; proves = are.0; low = are.1 }, all_derivable proofs atoms are.2)
+  all_derivable proofs atoms are = grind arith
 
   writable : (old new : Spot) (step : LogStep) → IsState program.signature old.state → IsStepOf program step → IsLegalStep program height old new step → IsWritable program step
   writable old new step before of legal =
       let machine = legal.machine in
       let rule = legal.rule in
-      let same : of.rule ≡ rule = some_same of.rule rule (sym of.numbered ∙ machine.numbered) in
       let backs = full_instances step.offer.values rule.backs in
       let applies : Applies program height old.state step.offer = record {
         rule = rule;
@@ -74,7 +70,7 @@ module _ (laws : StepLaws) (program : Parts) (is : IsProgram program) (height : 
         numbered = machine.numbered;
         of_rule = subst (λ (found : Option Rule). IsSomeAnd found (λ rule. AreValues program.signature.cons rule.kinds step.offer.values)) (sym machine.numbered) machine.values;
         small = laws.small_offers program height old.state step.offer is before applies;
-        as_many = of.as_many ∙ ap (λ (rule : Rule). length rule.backs) same;
+        as_many = of.as_many ∙ ap (λ (rule : Rule). length rule.backs) (some_same of.rule rule (sym of.numbered ∙ machine.numbered));
         readable = all_readable step.proofs backs machine.proved;
         stage = legal.stage;
         in_range = of.in_range;

@@ -48,9 +48,8 @@ state_listing laws signature state is fits = record {
 -- Its lines are read one after another.
 
 behind_others : (old : List (AtomTree × ℕ)) (entry : AtomTree × ℕ) (later : List (AtomTree × ℕ)) → AtomsRise (old ++ entry ∷ later) → IsBehind old entry.0
-behind_others [] entry later rise = tt
-behind_others (first ∷ []) entry later rise = rise.0.0
 behind_others (first ∷ next ∷ old) entry later rise = grind (arith, entry.0, behind_others (next ∷ old) entry later rise.1, rise.1)
+behind_others old entry later rise = grind arith
 
 have_at : (signature : Signature) (old : List (AtomTree × ℕ)) (entry : AtomTree × ℕ) (later : List (AtomTree × ℕ)) → AllByRecursion (IsHave signature) (old ++ entry ∷ later) → IsHave signature entry
 have_at signature [] entry later all = all.0
@@ -98,6 +97,4 @@ end_read program number log end old (entry ∷ entries) is = (
 -- Ways are joined.
 pub ways_join : (program : Parts) (number : ℕ) (lines later : List (List ℕ)) (one mid last : SoFar) → Leads program number lines one mid → Leads program (number + length lines) later mid last → Leads program number (lines ++ later) one last
 ways_join program number [] later one mid last a b = grind arith
-ways_join program number (line ∷ lines) later one mid last a b =
-    let at : number + length (line ∷ lines) ≡ number + 1 + length lines = omega arith in
-    (a.0, a.1, ways_join program (number + 1) lines later a.0 mid last a.2 (subst (λ (n : ℕ). Leads program n later mid last) at b))
+ways_join program number (line ∷ lines) later one mid last a b = (a.0, a.1, ways_join program (number + 1) lines later a.0 mid last a.2 (subst (λ (n : ℕ). Leads program n later mid last) (omega arith) b))

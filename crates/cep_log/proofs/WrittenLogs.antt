@@ -11,7 +11,6 @@ use Rattle.cep_rule.specs.Limits.{IsHeight}
 use Rattle.cep_rule.specs.Program.{IsProgram}
 use Rattle.cep_rule.specs.Steps.{start_spot}
 use Rattle.cep_lines.specs.declared.version.Version.{Version}
-use Rattle.cep_lines.specs.declared.version.Version.TheVariants.{One, Two}
 use Rattle.cep_lines.specs.Lines.{line, has_listing, version_text, height_text, stage_text, have_text, step_text, by_text, state_text, end_text}
 use Rattle.cep_log.specs.declared.log.Log.{Log}
 use Rattle.cep_log.specs.declared.log.LogStep.{LogStep}
@@ -129,8 +128,7 @@ module _ (program : Parts) where
       let own = step_texts program (next_number log) step in
       let n = number + length remarks in
       let first = step_told n old log whole step are.0 listed.0 in
-      let more = length-append log.steps (first.read ∷ []) in
-      let numbered : next_number log + 1 ≡ next_number (log_with log first.read) = omega (arith, more) in
+      let numbered : next_number log + 1 ≡ next_number (log_with log first.read) = omega (arith, (length-append log.steps (first.read ∷ []))) in
       let rest = steps_told (n + length own) first.front (log_with log first.read) first.whole steps later are.1
       (subst (λ (k : ℕ). HaveListings log.version k steps) numbered listed.1) (subst (λ (k : ℕ). TellSteps program k steps later) numbered told.3) in
       record {
@@ -146,12 +144,11 @@ module _ (program : Parts) where
   steps_one : IsProgram program → (number : ℕ) (steps : List LogStep) (lines : List (List ℕ)) → AllByRecursion (IsWritable program) steps → TellSteps program number steps lines → AllByRecursion IsOneLine lines
   steps_one is number [] lines are told = subst (AllByRecursion IsOneLine) (sym told) tt
   steps_one is number (step ∷ steps) lines are told =
-      let bys = map (by_text program) step.proofs in
       let stages = stage_texts program step.stage in
       let mids = mid_texts program number step.mid in
       let own : AllByRecursion IsOneLine (step_texts program number step) = (
         step_text_one program is step.offer are.0.of_rule,
-        both_all IsOneLine bys (stages ++ mids) (bys_one program is step.proofs are.0.readable)
+        both_all IsOneLine (map (by_text program) step.proofs) (stages ++ mids) (bys_one program is step.proofs are.0.readable)
             (both_all IsOneLine stages mids (stages_one program is step.stage are.0.in_range) (mids_one program is number step.mid are.0.listing)),
       ) in
       subst (AllByRecursion IsOneLine) (sym told.4)
@@ -161,8 +158,7 @@ module _ (program : Parts) where
 -- The header and the end
 
 not_over : (version : Version) → ¬ (IsPassedOver (version_text version))
-not_over One over = omega (arith, over)
-not_over Two over = omega (arith, over)
+not_over version over = grind arith
 
 -- the log with its start listing, as it is read
 abbrev log_started : Log → Log

@@ -31,36 +31,20 @@ whole_log (Ended log end) = None
 
 -- What begins after the log may stand next.
 pub next_stands : (program : Parts) (number : ℕ) (line : List ℕ) (so_far : SoFar) (log : Log) (new : SoFar) → whole_log so_far ≡ Some log → BeginsNext program number line log new → Becomes program number line so_far new
-next_stands program number line Nothing log new whole next = none_some log whole
-next_stands program number line (Begun version) log new whole next = none_some log whole
-next_stands program number line (Height version height) log new whole next = none_some log whole
-next_stands program number line (Whole old) log new whole next = inr (subst (λ log. BeginsNext program number line log new) (sym (some_same old log whole)) next)
-next_stands program number line (Within old step) log new whole next = none_some log whole
-next_stands program number line (Unlisted old step) log new whole next = none_some log whole
-next_stands program number line (Listed old step mid) log new whole next = inr (subst (λ log. BeginsNext program number line log new) (sym (some_same (log_listed old step mid) log whole)) next)
-next_stands program number line (Ended old end) log new whole next = none_some log whole
+next_stands program number line so_far log new whole next = grind (arith, none_some, some_same)
 
 -- whether a step has all its own lines
 own_all : (next stage : Option ℕ) (full : Bool) → full ≡ true → next ≡ None → (full && (is_none next || is_some stage)) ≡ true
-own_all None stage true f e = refl
-own_all None stage false f e = absurd cc
-own_all (Some s) stage full f e = absurd cc
+own_all next stage full f e = grind arith
 
 own_staged : (next : Option ℕ) (full : Bool) (s : ℕ) → full ≡ true → (full && (is_none next || is_some (Some s))) ≡ true
-own_staged None true s f = refl
-own_staged (Some n) true s f = refl
-own_staged None false s f = absurd cc
-own_staged (Some n) false s f = absurd cc
+own_staged next full s f = grind arith
 
 own_unstaged : (next stage : Option ℕ) (full : Bool) (s : ℕ) → next ≡ Some s → stage ≡ None → (full && (is_none next || is_some stage)) ≡ false
-own_unstaged None stage full s e f = absurd cc
-own_unstaged (Some n) None true s e f = refl
-own_unstaged (Some n) None false s e f = refl
-own_unstaged (Some n) (Some m) full s e f = absurd cc
+own_unstaged next stage full s e f = grind arith
 
 own_lacks : (next stage : Option ℕ) (full : Bool) → full ≡ false → (full && (is_none next || is_some stage)) ≡ false
-own_lacks next stage false f = refl
-own_lacks next stage true f = absurd cc
+own_lacks next stage full f = grind arith
 
 module _ (program : Parts) (log : Log) (rule : Rule) where
   joined_own : (step : LogStep) → has_own_lines rule step ≡ true → with_step rule log step ≡ with_own log step
