@@ -1,6 +1,6 @@
 -- What a command had begun where it was cut short is the beginning of something that is due of its words.
-use Rattle.std.proofs.Common.{◌≡◌, inl, inr, ℕ, List, [], ◌∷◌, ◌++◌, length, take, refl, sym, ap, ◌∙◌, subst, Some}
-use Rattle.std.specs.Prelude.{Result, Ok, Err, IfErr, OnErr, drop}
+use Rattle.std.proofs.Common.{◌≡◌, inl, inr, ℕ, List, [], ◌∷◌, ◌++◌, length, take, refl, sym, ap, ◌∙◌, subst, Some, arith}
+use Rattle.std.specs.Prelude.{Result, IfErr, OnErr, drop}
 use Rattle.std.specs.Result.{IsErrAnd}
 use Rattle.std.specs.declared.alloc.AllocError.{AllocError}
 use Rattle.std.proofs.Math.Seq.{take-length}
@@ -14,7 +14,7 @@ use Rattle.cep_rule.specs.declared.parts.Parts.{Parts}
 use Rattle.cep_ground.specs.Texts.{Spells}
 use Rattle.cep_words.specs.declared.options.Options.{Options}
 use Rattle.cep_words.specs.Words.{Request, Play, Examine, Dead, World}
-use Rattle.cep_run.specs.Fronts.{BeginsSome, LeavesUnheard, heard_bytes}
+use Rattle.cep_run.specs.Fronts.{BeginsSome, LeavesUnheard}
 use Rattle.cep_play.specs.Exchange.{Talked, Loaded, AskedFor, Went}
 use Rattle.cep_play.specs.Command.{AsksUpTo, settings_of}
 use Rattle.cep_play.specs.Outside.{Due, Report, report_due, code_told}
@@ -24,23 +24,17 @@ use Rattle.cep_play.specs.Begun.{BeginsWhatIsDue, AsksPrefixOfAll}
 use Rattle.cep_play.specs.Outcome.{InVain, WrotePrefix, IsSomePlaySaid, IsReportOn, IsToPlay}
 use Rattle.cep_play.proofs.Reported.{IsOneRequest, asked_due, adds_none}
 use Rattle.cep_play.proofs.Playing.{went_map, some_dialogue}
+use Rattle.cep_run.proofs.Unheard.{outs_unheard}
 
 -- Faults
 
 pub cut_off : {T : Type 0} (answer : Result T ConsoleFault) (P R : Type 0) → OnErr answer P → IfErr answer (λ fault. InVain fault P R)
-cut_off (Ok value) P R is = tt
-cut_off (Err faults.Failed) P R is = is
-cut_off (Err (faults.Memory error)) P R is = inl is
+cut_off answer P R is = grind arith
 
 pub out_of_memory : {T : Type 0} (answer : Result T ConsoleFault) (error : AllocError) (P R : Type 0) → IsErrAnd answer (λ fault. fault ≡ faults.Memory error) → R → IfErr answer (λ fault. InVain fault P R)
-out_of_memory (Ok value) error P R is nothing = tt
-out_of_memory (Err fault) error P R is nothing = subst (λ it. InVain it P R) (sym is) (inr nothing)
+out_of_memory answer error P R is nothing = grind arith
 
 -- Texts
-
-outs_unheard : (bytes : List ℕ) → heard_bytes (outs bytes) ≡ []
-outs_unheard [] = refl
-outs_unheard (byte ∷ bytes) = outs_unheard bytes
 
 module _ (words : List (List ℕ)) (talk : Talked) (loads : Loaded) where
   -- a report that is due was begun

@@ -1,5 +1,5 @@
 -- What a command came to is what is due of its words.
-use Rattle.std.proofs.Common.{◌≡◌, ◌⊎◌, inl, inr, ⊎_elim, ℕ, suc, ◌+◌, List, [], ◌∷◌, length, map, refl, sym, ap, ◌∙◌, subst}
+use Rattle.std.proofs.Common.{◌≡◌, ◌⊎◌, inl, inr, ⊎_elim, ℕ, suc, ◌+◌, List, [], ◌∷◌, length, map, refl, sym, ap, ◌∙◌, subst, arith}
 use Rattle.std.specs.Prelude.{unwrap_or}
 use Rattle.cep_base.specs.declared.limits.TheConstants.{DEFAULT_SEED}
 use Rattle.cep_base.specs.declared.console.Event.{Event}
@@ -8,7 +8,6 @@ use Rattle.cep_rule.specs.declared.parts.Parts.{Parts}
 use Rattle.cep_lines.specs.declared.end_word.EndWord.{EndWord}
 use Rattle.cep_words.specs.declared.options.Options.{Options}
 use Rattle.cep_words.specs.Words.{Request, Play, Examine, Dead, World}
-use Rattle.cep_term.specs.Multiset.{copies_in}
 use Rattle.cep_run.specs.declared.tally.Tally.{Tally}
 use Rattle.cep_run.specs.Run.{Turn, Ending, unproved, offers_listed}
 use Rattle.cep_run.specs.Said.{IsSaid, IsTally}
@@ -32,12 +31,7 @@ offers_counted (turn ∷ turns) = ap (λ n. length turn.question.offers + n) (of
 
 -- runs that differ in derivations alone have one tally
 one_tally : (tally : Tally) (turns turns' : List Turn) (ending ending' : Ending) → map unproved turns' ≡ map unproved turns → ending' ≡ ending → IsTally turns ending tally → IsTally turns' ending' tally
-one_tally tally turns turns' ending ending' same end is = record {
-  word = is.word ∙ ap (λ (e : Ending). e.word) (sym end);
-  turns = is.turns ∙ sym (turns_counted turns) ∙ ap (λ (ts : List Turn). length ts) (sym same) ∙ turns_counted turns';
-  offers = is.offers ∙ sym (offers_counted turns) ∙ ap offers_listed (sym same) ∙ offers_counted turns';
-  copies = is.copies ∙ ap (λ (e : Ending). copies_in e.state) (sym end);
-}
+one_tally tally turns turns' ending ending' same end is = grind (arith, turns_counted, offers_counted)
 
 -- the tally of a run with nothing typed is that of each other
 pub tallied : (program : Parts) (options : Options) (tally : Tally) (events : List Event) (rest : List ℕ)

@@ -1,5 +1,5 @@
 -- Claims that are judged one after another.
-use Rattle.std.proofs.Common.{◌≡◌, ℕ, ◌+◌, ◌<◌, List, [], ◌∷◌, ◌++◌, length, map, take, get_or, refl, ap, sym, ◌∙◌, Option, None, Some}
+use Rattle.std.proofs.Common.{◌≡◌, ℕ, ◌+◌, ◌<◌, List, [], ◌∷◌, ◌++◌, length, map, take, get_or, refl, ap, sym, ◌∙◌, Option, None, Some, arith}
 use Rattle.std.specs.Prelude.{MatchOption}
 use Rattle.std.specs.List.{AllByRecursion, flat_map}
 use Rattle.std.proofs.lemmas.List.{map-append, take_more, flat_map_more}
@@ -8,13 +8,10 @@ use Rattle.cep_rule.specs.declared.parts.Parts.{Parts}
 use Rattle.cep_weigh.specs.declared.weight.Weight.{Weight}
 use Rattle.cep_weigh.specs.declared.weight.Against.{Against}
 use Rattle.cep_play.specs.declared.report.Status.{Status}
-use Rattle.cep_play.specs.declared.report.Status.TheVariants.{Done}
-use Rattle.cep_play.specs.Outside.{Report}
 use Rattle.cep_report.specs.ClaimLines.{claim_lines_of}
-use Rattle.cep_play.specs.Claims.{claims_code, IsJudged, IsReportOfWeights}
+use Rattle.cep_play.specs.Claims.{claims_code, IsJudged}
 use Rattle.cep_play.specs.Outcome.{code_of}
 use Rattle.cep_play.proofs.Reporting.{Judged}
-use Rattle.cep_play.proofs.Done.{made}
 
 abbrev lines_of : Parts → Judged → List ℕ
 lines_of program one = claim_lines_of program one.0 one.1
@@ -27,23 +24,17 @@ pub record AreTold (program : Parts) (weights : List Weight) (text : List ℕ) (
   pub text_is : text ≡ flat_map (lines_of program) judged
   pub status_is : code_of status ≡ claims_code (map (λ one. one.1) judged)
 
-pub none_told : (program : Parts) (text : List ℕ) → text ≡ [] → AreTold program [] text Done
-none_told program text is = record { judged = []; each = refl; right = tt; text_is = is; status_is = refl }
-
 code_kept : (judged : List Judged) (weight : Weight) → claims_code (map (λ one. one.1) (judged ++ (weight, None) ∷ [])) ≡ claims_code (map (λ one. one.1) judged)
-code_kept [] weight = refl
 code_kept ((first, None) ∷ judged) weight = code_kept judged weight
-code_kept ((first, Some against) ∷ judged) weight = refl
+code_kept judged weight = refl
 
 code_broken : (judged : List Judged) (weight : Weight) (against : Against) → claims_code (map (λ one. one.1) (judged ++ (weight, Some against) ∷ [])) ≡ 5
-code_broken [] weight against = refl
 code_broken ((first, None) ∷ judged) weight against = code_broken judged weight against
-code_broken ((first, Some other) ∷ judged) weight against = refl
+code_broken judged weight against = refl
 
 code_after : (judged : List Judged) (weight : Weight) (verdict : Option Against) (status status' : Status) → code_of status ≡ claims_code (map (λ one. one.1) judged) → MatchOption verdict (status' ≡ status) (λ _. code_of status' ≡ 5)
     → code_of status' ≡ claims_code (map (λ one. one.1) (judged ++ (weight, verdict) ∷ []))
-code_after judged weight None status status' was is = ap code_of is ∙ was ∙ sym (code_kept judged weight)
-code_after judged weight (Some against) status status' was is = is ∙ sym (code_broken judged weight against)
+code_after judged weight verdict status status' was is = grind (arith, code_kept, code_broken)
 
 -- one claim more
 pub one_told : (program : Parts) (weights : List Weight) (i : ℕ) (weight : Weight) (verdict : Option Against) (text text' : List ℕ) (status status' : Status) → i < length weights → weight ≡ get_or weights i weight → AreTold program (take i weights) text status
@@ -54,13 +45,4 @@ one_told program weights i weight verdict text text' status status' within here 
   right = all_pushed (λ one. IsJudged program one.0 one.1) told.judged (weight, verdict) told.right right;
   text_is = written ∙ ap (λ xs. xs ++ claim_lines_of program weight verdict) told.text_is ∙ flat_map_more (lines_of program) [] told.judged (weight, verdict);
   status_is = code_after told.judged weight verdict status status' told.status_is after;
-}
-
--- the report of all
-pub all_told : (program : Parts) (weights : List Weight) (text : List ℕ) (status : Status) (report : Report) → AreTold program weights text status → report ≡ record { written = text; code = code_of status } → IsReportOfWeights program weights report
-all_told program weights text status report told is = record {
-  judged = told.judged;
-  each = told.each;
-  right = told.right;
-  is = is ∙ ap (λ (w : List ℕ). made w (code_of status)) told.text_is ∙ ap (made _) told.status_is;
 }

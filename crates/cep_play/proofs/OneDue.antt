@@ -1,5 +1,5 @@
 -- What is due of words is one but for what is written.
-use Rattle.std.proofs.Common.{◌≡◌, inl, inr, ℕ, List, [], ◌∷◌, refl, sym, ap, ◌∙◌, subst, Some}
+use Rattle.std.proofs.Common.{◌≡◌, inl, inr, ℕ, List, [], ◌∷◌, refl, sym, ap, ◌∙◌, subst, Some, arith}
 use Rattle.cep_base.specs.Files.{Files, HasFile}
 use Rattle.cep_base.proofs.Lists.{some_same}
 use Rattle.cep_rule.specs.declared.parts.Parts.{Parts}
@@ -67,9 +67,7 @@ module _ (reads : (text : List ℕ) (program : Parts) → Spells text program �
   one_summary : (rooms : ℕ) (options : Options) (program : Parts) (one two : Report) → ReportsWorld rooms options program one → ReportsWorld rooms options program two → one.code ≡ two.code
   one_summary rooms options program one two (tally, tallied, is) (tally', tallied', is') =
       let said = tallied'.said in
-      let same = tallied.alone said.turns said.ending tallied'.events tallied'.rest said.dialogue in
-      let words : tally.word ≡ tally'.word = same.word ∙ sym said.holds.word in
-      ap code is ∙ ap code_told words ∙ sym (ap code is')
+      ap code is ∙ ap code_told ((tallied.alone said.turns said.ending tallied'.events tallied'.rest said.dialogue).word ∙ sym said.holds.word) ∙ sym (ap code is')
 
   tours_are_one : (rooms : ℕ) (options : Options) (due other : Due) → IsDueOf (World rooms options) over due → IsDueOf (World rooms options) over other → AreOne due other
   tours_are_one rooms options due other is is' = of_text (world rooms) (world rooms) [] come (λ program. IsReportDue (ReportsWorld rooms options program) [] come due) (λ program. IsReportDue (ReportsWorld rooms options program) [] come other) due other refl is is'
@@ -83,7 +81,4 @@ module _ (reads : (text : List ℕ) (program : Parts) → Spells text program �
   of_request (World rooms options) due other = tours_are_one rooms options due other
 
   pub one_due : IsOneRequest → (words : List (List ℕ)) (due other : Due) → IsDue words over due → IsDue words over other → AreOne due other
-  one_due one words due other (inl none) (inl none') = both_told due other _ _ none.1 none'.1 (refl, refl, refl)
-  one_due one words due other (inl none) (inr of) = absurd (none.0 of.0 of.1)
-  one_due one words due other (inr of) (inl none) = absurd (none.0 of.0 of.1)
-  one_due one words due other (inr of) (inr of') = of_request of.0 due other of.2 (subst (λ (r : Request). IsDueOf r over other) (one words of'.0 of.0 of'.1 of.1) of'.2)
+  one_due one words due other given given' = grind (arith, both_told, of_request, over)

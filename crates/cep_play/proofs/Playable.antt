@@ -1,8 +1,7 @@
 -- A transcript that is accepted can have been played.
-use Rattle.std.proofs.Common.{◌≡◌, inl, inr, ⊎_elim, ℕ, List, [], ◌∷◌, sym, ap, ◌∙◌, arith}
+use Rattle.std.proofs.Common.{◌≡◌, ⊎_elim, ℕ, List, [], ◌∷◌, sym, ◌∙◌, arith}
 use Rattle.std.specs.Prelude.{Contains, Option}
 use Rattle.cep_base.specs.Files.{Files}
-use Rattle.cep_base.proofs.Elements.{contains_none, contains_cases}
 use Rattle.cep_rule.specs.declared.parts.Parts.{Parts}
 use Rattle.cep_rule.specs.Program.{IsProgram}
 use Rattle.cep_ground.specs.Texts.{Spells}
@@ -19,8 +18,7 @@ use Rattle.cep_play.specs.Playable.{CanBeTyped, CanHaveBeenPlayed, ChecksWhatCan
 
 -- 0 is no status of a fault
 no_zero : Contains {X = ℕ} (6 ∷ 7 ∷ 9 ∷ []) 0 → ⊥
-no_zero among =
-    ⊎_elim (λ e. omega (arith, e)) (λ later. ⊎_elim (λ e. omega (arith, e)) (λ last. ⊎_elim (λ e. omega (arith, e)) (λ none. contains_none 0 none) (contains_cases 9 [] 0 last)) (contains_cases 7 (9 ∷ []) 0 later)) (contains_cases 6 (7 ∷ 9 ∷ []) 0 among)
+no_zero among = grind arith
 
 -- A legal log is replayed by what answers its steps.
 abbrev pub AreReplayed : Type 0
@@ -32,10 +30,7 @@ AreAnswered = (program : Parts) (log : Log) → IsProgram program → IsLegal pr
 
 module _ (replayed : AreReplayed) (answered : AreAnswered) where
   accepted : (program : Parts) (bytes : List ℕ) (report : Report) → IsProgram program → report.code ≡ 0 → Reports Check program bytes report → CanHaveBeenPlayed program bytes
-  accepted program bytes report is zero (inl (text, accepts, same)) =
-      let legal = accepts.1.2 in
-      (accepts.0, accepts.1, (λ settings typed can. replayed program settings accepts.0 typed legal can), answered program accepts.0 is legal)
-  accepted program bytes report is zero (inr (text, rejects, same)) = absurd (let one : report.code ≡ 1 = ap (λ (report : Report). report.code) same in omega (arith, one, zero))
+  accepted program bytes report is given given' = grind arith
 
   done : (program : Parts) (bytes : List ℕ) (status : ℕ) → IsProgram program → status ≡ 0 → ReportsBy (Reports Check program bytes) (6 ∷ 7 ∷ 9 ∷ []) status → CanHaveBeenPlayed program bytes
   done program bytes status is zero by = ⊎_elim (λ fault. absurd (no_zero (rw zero at fault))) (λ found. accepted program bytes found.0 is (sym found.2 ∙ zero) found.1) by.1

@@ -1,5 +1,5 @@
 -- What holds of a dialogue of one player and of one of several in rounds alike.
-use Rattle.std.proofs.Common.{◌≡◌, ℕ, ◌<◌, List, [], ◌∷◌, ◌++◌, refl, sym, ap, ◌∙◌, subst, arith, Option, None, Some}
+use Rattle.std.proofs.Common.{◌≡◌, ℕ, ◌<◌, List, [], ◌∷◌, ◌++◌, refl, sym, subst, arith, Option, None, Some}
 use Rattle.std.specs.List.{AllByRecursion}
 use Rattle.cep_base.specs.declared.console.Event.{Event}
 use Rattle.cep_rule.specs.declared.parts.Parts.{Parts}
@@ -7,7 +7,7 @@ use Rattle.cep_rule.specs.Program.{IsProgram}
 use Rattle.cep_lines.specs.declared.end_word.EndWord.{EndWord}
 use Rattle.cep_step.specs.Deeds.{Position}
 use Rattle.cep_words.specs.declared.options.Options.{Options}
-use Rattle.cep_words.specs.declared.run_option.RunOption.TheVariants.{Seed, Height, Turns, Players}
+use Rattle.cep_words.specs.declared.run_option.RunOption.TheVariants.{Players}
 use Rattle.cep_words.specs.Words.{IsInBounds, asked_if, AreWithin}
 use Rattle.cep_run.specs.declared.settings.Settings.{Settings}
 use Rattle.cep_run.specs.declared.tally.Tally.{Tally}
@@ -44,15 +44,10 @@ all_later P (x ∷ xs) ys all = all_later P xs ys all.1
 
 -- what options say of players is within its bounds
 pub players_within : (options : Options) → AreWithin options → AllByRecursion IsInBounds (asked_if Players options.players)
-players_within options within =
-    let players = asked_if Players options.players in
-    let turns = asked_if Turns options.turns in
-    let height = asked_if Height options.height in
-    all_later IsInBounds turns players (all_later IsInBounds height (turns ++ players) (all_later IsInBounds (asked_if Seed options.seed) (height ++ (turns ++ players)) within))
+players_within options within = grind (arith, all_later, options.players, options.turns, options.height, options.seed)
 
 pub some_play : (players : Option ℕ) → AllByRecursion IsInBounds (asked_if Players players) → SomePlay players
-some_play None within = tt
-some_play (Some players) within = let two = within.0.0 in omega (arith, two)
+some_play players within = grind arith
 
 -- What is said
 
@@ -85,10 +80,8 @@ some_dialogue (Some players) program settings come events rest said = said
 -- what is typed determines with which word a dialogue ends, and what is left
 pub one_dialogue : (players : Option ℕ) (program : Parts) (settings : Settings) (word word' : EndWord) (come : List ℕ) (events events' : List Event) (rest rest' : List ℕ)
     → IsDialogueOf players program settings word come events rest → IsDialogueOf players program settings word' come events' rest' → (word ≡ word') × (rest ≡ rest')
-one_dialogue None program settings word word' come events events' rest rest' said said' =
-    let only = said'.only said.turns said.ending events rest said.dialogue in (sym said.holds ∙ ap (λ (e : Ending). e.word) only.1 ∙ said'.holds, only.2)
-one_dialogue (Some players) program settings word word' come events events' rest rest' said said' =
-    let only = said'.only said.parts said.end word said.last events rest said.dialogue in (only.2, only.4)
+one_dialogue None program settings word word' come events events' rest rest' said said' = grind (arith, said'.only said.turns said.ending events rest said.dialogue)
+one_dialogue (Some players) program settings word word' come events events' rest rest' said said' = grind (arith, said'.only said.parts said.end word said.last events rest said.dialogue)
 
 -- How it ends
 

@@ -1,11 +1,10 @@
 -- What is reported is due of a request, and so of words that ask for it.
-use Rattle.std.proofs.Common.{◌≡◌, ◌⊎◌, inl, inr, ⊎_elim, ℕ, ◌≤◌, List, [], ◌∷◌, ◌++◌, refl, sym, ap, ◌∙◌, subst, arith, append_assoc, Option, None, Some}
+use Rattle.std.proofs.Common.{◌≡◌, ◌⊎◌, inl, inr, ⊎_elim, ℕ, ◌≤◌, List, [], ◌∷◌, ◌++◌, refl, ap, ◌∙◌, subst, arith, append_assoc, Option}
 use Rattle.std.specs.Prelude.{Result, Ok, Err, IfOk, OnErr}
 use Rattle.std.specs.Option.{option_map}
 use Rattle.std.proofs.lemmas.List.{append-nil}
 use Rattle.cep_base.specs.Files.{Files, HasFile}
 use Rattle.cep_lines.specs.declared.end_word.EndWord.{EndWord}
-use Rattle.cep_lines.specs.declared.end_word.EndWord.TheVariants.{Quiet, Input, Turns, Offers, Typed, Atom, State}
 use Rattle.cep_rule.specs.declared.parts.Parts.{Parts}
 use Rattle.cep_world.specs.World.{world}
 use Rattle.cep_words.specs.declared.request.Task.{Task}
@@ -17,7 +16,7 @@ use Rattle.cep_play.specs.Outside.{Report, IsRefusal, line_report, report_due, c
 use Rattle.cep_play.specs.Counted.{RoseByRequest, RoseByAll}
 use Rattle.cep_play.specs.Answered.{AsksAsSaid, AsksAtMost}
 use Rattle.cep_play.specs.declared.report.Report as made
-use Rattle.cep_play.specs.Outcome.{report_of, IsRead, IsFoundInText, IsFoundInFile, all_read, one_unread, ReportsNone, ReportsSecond, ReportsDeadIn, AsksFile, ReportsTour, IsDueAnyway, IsReportOf, IsReportOn}
+use Rattle.cep_play.specs.Outcome.{report_of, IsRead, IsFoundInText, IsFoundInFile, all_read, ReportsNone, ReportsSecond, ReportsDeadIn, AsksFile, ReportsTour, IsDueAnyway, IsReportOf, IsReportOn}
 use Rattle.cep_play.proofs.Reporting.{code, low_code}
 
 -- words ask for one thing at most
@@ -30,13 +29,7 @@ asked_due one words request ask P of = subst P (one words of.0 request of.1 ask)
 
 -- the status of a run is 0 or 4
 pub told_is : (word : EndWord) → (code_told word ≡ 0) ⊎ (code_told word ≡ 4)
-told_is Quiet = inl refl
-told_is Input = inl refl
-told_is Turns = inr refl
-told_is Offers = inr refl
-told_is Typed = inr refl
-told_is Atom = inr refl
-told_is State = inr refl
+told_is word = grind arith
 
 pub told_low : (word : EndWord) (code : ℕ) → code ≡ code_told word → code ≤ 5
 told_low word code is = ⊎_elim (λ zero. omega (arith, is, zero)) (λ four. omega (arith, is, four)) (told_is word)
@@ -44,59 +37,32 @@ told_low word code is = ⊎_elim (λ zero. omega (arith, is, zero)) (λ four. om
 -- Names
 
 pub adds_none : (told : Option (List (List ℕ))) → told ≡ option_map (λ asked. asked ++ []) told
-adds_none None = refl
-adds_none (Some asked) = ap Some (sym (append-nil asked))
+adds_none told = grind (arith, append-nil)
 
 -- two names that are asked for one after the other
 adds_twice : (before between after : Option (List (List ℕ))) (one other : List ℕ) → between ≡ option_map (λ asked. asked ++ one ∷ []) before → after ≡ option_map (λ asked. asked ++ other ∷ []) between → after ≡ option_map (λ asked. asked ++ one ∷ other ∷ []) before
-adds_twice before between after one other first second = second ∙ ap (option_map (λ asked. asked ++ other ∷ [])) first ∙ joined before where
-  joined : (told : Option (List (List ℕ))) → option_map (λ asked. asked ++ other ∷ []) (option_map (λ asked. asked ++ one ∷ []) told) ≡ option_map (λ asked. asked ++ one ∷ other ∷ []) told
-  joined None = refl
-  joined (Some asked) = ap Some (append_assoc asked (one ∷ []) (other ∷ []))
+adds_twice before between after one other first second = grind (arith, append_assoc)
 
 -- Texts
 
 -- what is found in a text is found in a file that has it
 pub found_in : {E : Type 0} (loads : Loaded) (file text : List ℕ) (answer : Result (Result Parts made.Report) E) → HasFile loads.files file text → IsRead loads → IfOk answer (IsFoundInText text) → IfOk answer (IsFoundInFile loads file)
-found_in loads file text (Ok (Ok program)) has read found = ((text, has, found), read)
-found_in loads file text (Ok (Err report)) has read found = inl ((text, has, found), read)
-found_in loads file text (Err error) has read found = tt
+found_in loads file text answer has read found = grind arith
 
 -- Requests
 
 module _ (loads : Loaded) (ticks ticks' : ℕ) (report : Report) where
   -- a text is refused
   refused_of : (request : Request) (names : List (List ℕ)) (text : List ℕ) → IsRefusal text report → IsRead loads → IsDueAnyway request loads names report → AskedFor loads names → AsksFor loads request → IsReportOf request loads ticks ticks' report
-  refused_of request names text refused read due asked said =
-      let is = ap code refused.is in
-      record {
-        names = names;
-        due = due;
-        asked = asked;
-        as_said = said;
-        comes = all_read (omega (arith, is)) read;
-        alone = λ _ _ _. ((λ e. absurd (omega (arith, is, e))), (λ e. absurd (omega (arith, is, e))));
-        rose = λ _ ran. absurd (⊎_elim (λ e. absurd (omega (arith, is, e))) (λ e. absurd (omega (arith, is, e))) ran);
-      }
+  refused_of request names text refused read due asked said = grind (arith, code, refused.is)
 
   -- a file could not be read
   unread_of : (request : Request) (names : List (List ℕ)) (text : List ℕ) → report ≡ line_report text 7 → IsUnread loads → IsDueAnyway request loads names report → AskedFor loads names → AsksFor loads request → IsReportOf request loads ticks ticks' report
-  unread_of request names text same unread due asked said =
-      let is = ap code same in
-      record {
-        names = names;
-        due = due;
-        asked = asked;
-        as_said = said;
-        comes = one_unread is unread;
-        alone = λ _ _ _. ((λ e. absurd (omega (arith, is, e))), (λ e. absurd (omega (arith, is, e))));
-        rose = λ _ ran. absurd (⊎_elim (λ e. absurd (omega (arith, is, e))) (λ e. absurd (omega (arith, is, e))) ran);
-      }
+  unread_of request names text same unread due asked said = grind (arith, ap code same)
 
   -- the program of a request to play could not be had
   pub none_to_play : (file : List ℕ) (options : Options) → AskedFor loads (file ∷ []) → ReportsNone loads file report → IsReportOf (Play file options) loads ticks ticks' report
-  none_to_play file options asked (inl ((text, has, refused), read)) = refused_of (Play file options) (file ∷ []) text refused read (λ come. inl (text, has, inl (report, refused, refl))) asked asked
-  none_to_play file options asked (inr (unread, is)) = unread_of (Play file options) (file ∷ []) no_program is unread (λ come. inr (unread, ap (λ r. report_due r (file ∷ []) come) is)) asked asked
+  none_to_play file options asked given = grind (arith, refused_of, unread_of)
 
   -- that of a request to examine a transcript
   pub none_to_examine : (task : Task) (file log : List ℕ) → AskedFor loads (file ∷ []) → ReportsNone loads file report → IsReportOf (Examine task file log) loads ticks ticks' report
@@ -157,9 +123,7 @@ module _ {H : Type 0} (files : H → Option Files) (asked : H → Option (List (
   both second = adds_twice (asked old) (asked mid) (asked new) file log first second
 
   found_so : (report : Report) → ReportsSecond (loaded files asked faults mid new) task program log report → ReportsSecond whole task program log report
-  found_so report found =
-      subst (λ n. ReportsSecond (record { files = files old; asked_before = asked old; asked_after = asked new; faults_before = n; faults_after = faults new }) task program log report) read
-      (subst (λ (f : Option Files). ReportsSecond (record { files = f; asked_before = asked old; asked_after = asked new; faults_before = faults mid; faults_after = faults new }) task program log report) same found)
+  found_so report found = grind arith
 
   pub examined : {E : Type 0} (ticks ticks' : ℕ) (answer : Result made.Report E) → AsksFile (loaded files asked faults mid new) log answer → IfOk answer (λ report. ReportsSecond (loaded files asked faults mid new) task program log (report_of report))
       → IfOk answer (λ report. IsReportOf (Examine task file log) whole ticks ticks' (report_of report))
@@ -204,12 +168,7 @@ module _ (words : List (List ℕ)) (loads : Loaded) (ticks ticks' : ℕ) where
 -- What was asked where the command was cut short
 
 pub asks_up_to : (loads : Loaded) (request : Request) → AsksFor loads request → AsksUpTo loads request
-asks_up_to loads (Play file options) asks = asks
-asks_up_to loads (Examine task file log) (inl asks) = inl asks
-asks_up_to loads (Examine task file log) (inr asks) = inr asks.1
-asks_up_to loads (Dead file) asks = asks
-asks_up_to loads (World rooms options) asks = asks
+asks_up_to loads request asks = grind arith
 
 pub at_most : (words : List (List ℕ)) (loads : Loaded) → AsksAsSaid words loads → AsksAtMost words loads
-at_most words loads (inl (request, ask, asks)) = inl (request, ask, asks_up_to loads request asks)
-at_most words loads (inr (none, asked)) = inr (asked ∙ sym (adds_none loads.asked_before))
+at_most words loads given = grind (arith, asks_up_to, adds_none loads.asked_before)

@@ -25,7 +25,6 @@ use Rattle.cep_check.specs.Causes.{IsLogRefused, IsVerdict}
 use Rattle.cep_check.specs.Telling.{verdict_text, fault_text}
 use Rattle.cep_cause.specs.Renewed.{IsTooLongRenewed}
 use Rattle.cep_cause.specs.declared.reordered.Reordered.{Reordered}
-use Rattle.cep_cause.specs.declared.reordered.Reordered.TheVariants.{Done, Unfit, TooLong}
 use Rattle.cep_graph.specs.BySeed.{IsReorderedBy}
 use Rattle.cep_weigh.specs.declared.fault.KeepFault.{KeepFault}
 use Rattle.cep_weigh.specs.declared.weight.Weight.{Weight}
@@ -71,9 +70,8 @@ pub record ReadsOnce (program : Parts) : Type 0 where
   pub answers : (log : Log) (seed : ℕ) (one other : Reordered) → IsReorderedBy program log seed one → IsReorderedBy program log seed other → one ≡ other
 
 low_claims : (judged : List (Option Against)) → claims_code judged ≤ 5
-low_claims [] = omega arith
 low_claims (None ∷ later) = low_claims later
-low_claims (Some against ∷ later) = omega arith
+low_claims judged = omega arith
 
 abbrev pub Judged : Type 0
 Judged = Weight × Option Against
@@ -86,14 +84,13 @@ kept_unbroken program weight against kept first = first.breaks (holds_at (KeepsT
 same_codes : (program : Parts) (judged judged' : List Judged) → map (λ one. one.0) judged ≡ map (λ one. one.0) judged' → AllByRecursion (λ one. IsJudged program one.0 one.1) judged → AllByRecursion (λ one. IsJudged program one.0 one.1) judged'
     → claims_code (map (λ one. one.1) judged) ≡ claims_code (map (λ one. one.1) judged')
 same_codes program [] [] same right right' = refl
-same_codes program [] (one ∷ later) same right right' = absurd (cc)
-same_codes program (one ∷ later) [] same right right' = absurd (cc)
 same_codes program ((weight, None) ∷ later) ((weight', None) ∷ later') same right right' = same_codes program later later' (let tails : map (λ one. one.0) later ≡ map (λ one. one.0) later' = cc in tails) right.1 right'.1
 same_codes program ((weight, Some against) ∷ later) ((weight', Some against') ∷ later') same right right' = refl
 same_codes program ((weight, None) ∷ later) ((weight', Some against) ∷ later') same right right' =
     let weights : weight ≡ weight' = cc in absurd (kept_unbroken program weight' against (subst (λ (w : Weight). AllKeepTo program w.claim w.sum) weights right.0) right'.0)
 same_codes program ((weight, Some against) ∷ later) ((weight', None) ∷ later') same right right' =
     let weights : weight' ≡ weight = cc in absurd (kept_unbroken program weight against (subst (λ (w : Weight). AllKeepTo program w.claim w.sum) weights right'.0) right.0)
+same_codes program judged judged' same right right' = absurd (cc)
 
 one_weighing : (program : Parts) (bytes : List ℕ) (one other : Report) → ReadsOnce program → ReportsWeighing program bytes one → ReportsWeighing program bytes other → one.code ≡ other.code
 one_weighing program bytes one other reads (inl (long, same)) (inl (long', same')) = ap code same ∙ sym (ap code same')
@@ -104,8 +101,7 @@ one_weighing program bytes one other reads (inr (inl (fault, short, has, same)))
 one_weighing program bytes one other reads (inr (inl (fault, short, has, same))) (inr (inr (weights, short', says, is))) = absurd (reads.either bytes weights fault says has)
 one_weighing program bytes one other reads (inr (inr (weights, short, says, is))) (inl (long, same)) = absurd (omega (arith, long, short))
 one_weighing program bytes one other reads (inr (inr (weights, short, says, is))) (inr (inl (fault, short', has, same))) = absurd (reads.either bytes weights fault says has)
-one_weighing program bytes one other reads (inr (inr (weights, short, says, is))) (inr (inr (weights', short', says', is'))) =
-    ap code is.is ∙ same_codes program is.judged is'.judged (is.each ∙ reads.claims bytes weights weights' says says' ∙ sym is'.each) is.right is'.right ∙ sym (ap code is'.is)
+one_weighing program bytes one other reads (inr (inr (weights, short, says, is))) (inr (inr (weights', short', says', is'))) = grind (arith, code, same_codes)
 
 -- Two reports of a legal log that is done in the order of a seed are one.
 one_reordering : (program : Parts) (bytes : List ℕ) (log log' : Log) (seed : ℕ) (one other : Report) → ReadsOnce program → IsLegalTranscript program bytes log → IsLegalTranscript program bytes log' → ReportsReordering program log seed one → ReportsReordering program log' seed other → one.code ≡ other.code
@@ -115,9 +111,7 @@ one_reordering program bytes log log' seed one other reads legal legal' (reorder
     ap code same ∙ ap (λ r. (reordered_report r).code) answers ∙ sym (ap code same')
 
 low_reordered : (reordered : Reordered) → (reordered_report reordered).code ≤ 5
-low_reordered (Done text) = omega arith
-low_reordered (Unfit number) = omega arith
-low_reordered TooLong = omega arith
+low_reordered reordered = grind arith
 
 -- Two reports on the bytes of a second file have one status.
 
@@ -147,26 +141,11 @@ one_code Weigh program bytes one other reads is is' = one_weighing program bytes
 
 -- that status is 0, 1 or 5
 pub low_code : (task : Task) (program : Parts) (bytes : List ℕ) (report : Report) → Reports task program bytes report → report.code ≤ 5
-low_code Check program bytes report (inl (text, accepts, same)) = omega (arith, ap code same)
-low_code Check program bytes report (inr (text, rejects, same)) = omega (arith, ap code same)
-low_code Renew program bytes report (inl (text, renews, same)) = omega (arith, ap code same)
-low_code Renew program bytes report (inr (inl (text, rejects, same))) = omega (arith, ap code same)
-low_code Renew program bytes report (inr (inr (long, same))) = omega (arith, ap code same)
-low_code tasks.Cause program bytes report (inl (log, legal, (causes, graph, same))) = omega (arith, ap code same)
-low_code tasks.Cause program bytes report (inr (text, rejects, same)) = omega (arith, ap code same)
-low_code (Again seed) program bytes report (inl (log, legal, (reordered, by, same))) = omega (arith, ap code same, low_reordered reordered)
-low_code (Again seed) program bytes report (inr (text, rejects, same)) = omega (arith, ap code same)
-low_code Weigh program bytes report (inl (long, same)) = omega (arith, ap code same)
-low_code Weigh program bytes report (inr (inl (fault, short, has, same))) = omega (arith, ap code same)
-low_code Weigh program bytes report (inr (inr (weights, short, has, is))) = omega (arith, ap code is.is, low_claims (map (λ one. one.1) is.judged))
+low_code task program bytes report said = grind (arith, low_reordered, low_claims)
 
 -- bytes that are no legal transcript, for any task on one
 why_reported : (task : Task) (program : Parts) (bytes : List ℕ) (report : Report) → ¬ (task ≡ Weigh) → ReportsWhy program bytes report → Reports task program bytes report
-why_reported Check program bytes report of_log why = inr why
-why_reported Renew program bytes report of_log why = inr (inl why)
-why_reported tasks.Cause program bytes report of_log why = inr why
-why_reported (Again seed) program bytes report of_log why = inr why
-why_reported Weigh program bytes report of_log why = absurd (of_log refl)
+why_reported task program bytes report of_log why = grind arith
 
 module _ (program : Parts) (bytes : List ℕ) (log : Log) (short : length bytes ≤ MOST_LOG) (has : HasLog program bytes log) (once : (one other : Log) → HasLog program bytes one → HasLog program bytes other → one ≡ other)
     (never : (line : ℕ) (cause : Cause) → IsLogRefused program log line cause → ¬ (IsLegal program log)) where
@@ -180,18 +159,12 @@ module _ (program : Parts) (bytes : List ℕ) (log : Log) (short : length bytes 
   verdict_reported (verdicts.Refused at cause) is = inr (verdict_text program (verdicts.Refused at cause), refused_log at cause is, refl)
 
   refusal_reported : (verdict : Verdict) → IsVerdict program log verdict → verdict_code verdict ≡ 1 → ReportsWhy program bytes (verdict_report program verdict)
-  refusal_reported (verdicts.Accepted steps) is same = let no : 0 ≡ 1 = same in absurd (omega (arith, no))
-  refusal_reported (verdicts.Refused at cause) is same = (verdict_text program (verdicts.Refused at cause), refused_log at cause is, refl)
+  refusal_reported verdict is same = grind (arith, refused_log)
 
   module _ (one_text : (old one other : Log) → IsRenewal program old one → IsRenewal program old other → text_of program one ≡ text_of program other) where
     -- no text is that of a log whose new text is too long
     no_renewed : IsTooLongRenewed program log → (text : List ℕ) → ¬ (Renews program bytes text)
-    no_renewed too text (other, legal, is) =
-        let same : other ≡ log = once other log legal.1 has in
-        let texts = one_text log too.new is.new too.renews (subst (λ (old : Log). IsRenewal program old is.new) same is.renews) in
-        let long = too.long in
-        let few = is.read.short in
-        absurd (omega (arith, long, few, ap length texts, ap length is.written))
+    no_renewed too text (other, legal, is) = grind (arith, once other log legal.1 has, one_text log too.new is.new too.renews (subst (λ (old : Log). IsRenewal program old is.new) (once other log legal.1 has) is.renews), too.long, is.read.short)
 
     renewal_reported : (report : Report) → IsLegal program log → IsRenewalReport program log report → Reports Renew program bytes report
     renewal_reported report legal (inl (text, is, same)) = inl (text, (log, (short, has, legal), is), same)
@@ -201,14 +174,12 @@ module _ (program : Parts) (bytes : List ℕ) (log : Log) (short : length bytes 
     legal_reported : (task : Task) (report : Report) → IsLegal program log → IsLegalReport task program log report → Reports task program bytes report
     legal_reported Check report legal (verdict, is, same) = subst (Reports Check program bytes) (sym same) (verdict_reported verdict is)
     legal_reported Renew report legal is = renewal_reported report legal is
-    legal_reported tasks.Cause report legal is = inl (log, (short, has, legal), is)
-    legal_reported (Again seed) report legal is = inl (log, (short, has, legal), is)
     legal_reported Weigh report legal is = absurd is
+    legal_reported task report legal is = grind arith
 
     -- the report of a log that was read
     pub log_reported : (task : Task) (report : Report) → ¬ (task ≡ Weigh) → IsLogReport task program log report → Reports task program bytes report
-    log_reported task report of_log (inl (legal, is)) = legal_reported task report legal is
-    log_reported task report of_log (inr (verdict, is, refused, same)) = subst (Reports task program bytes) (sym same) (why_reported task program bytes _ of_log (refusal_reported verdict is refused))
+    log_reported task report of_log given = grind (arith, legal_reported, why_reported, refusal_reported)
 
 -- bytes that are no transcript
 pub misfit_reported : (task : Task) (program : Parts) (bytes : List ℕ) (fault : LogFault) (report : Report) → ¬ (task ≡ Weigh) → HasMisfit program bytes fault
@@ -222,21 +193,17 @@ too_many : (program : Parts) (bytes : List ℕ) → MOST_LOG < length bytes → 
 too_many program bytes long = record { no_legal = λ log legal. (let short = legal.0 in absurd (omega (arith, long, short))); why = inl (long, refl) }
 
 pub long_reported : (task : Task) (program : Parts) (bytes : List ℕ) → most_of task < length bytes → Reports task program bytes (line_report too_long_text 1)
-long_reported Check program bytes long = inr (too_long_text, too_many program bytes long, refl)
 long_reported Renew program bytes long = inr (inl (too_long_text, too_many program bytes long, refl))
-long_reported tasks.Cause program bytes long = inr (too_long_text, too_many program bytes long, refl)
-long_reported (Again seed) program bytes long = inr (too_long_text, too_many program bytes long, refl)
 long_reported Weigh program bytes long = inl (long, refl)
+long_reported task program bytes long = inr (too_long_text, too_many program bytes long, refl)
 
 -- a text that is too long, for a shelf that tells none
 long_text : (n : ℕ) → (text : List ℕ) × (n < length text)
 long_text n = (replicate (n + 1) 0, simp length-replicate (omega arith))
 
 long_there : (found : Option (List ℕ)) (most : ℕ) → IsSomeAnd found (λ bytes. most < length bytes) → (text : List ℕ) × (found ≡ Some text) × (most < length text)
-long_there None most is = absurd is
-long_there (Some text) most is = (text, refl, is)
+long_there found most is = grind arith
 
 -- some text of the file is too long: the one that is there, where the files are told
 pub longer_file : (files : Option Files) (name : List ℕ) (most : ℕ) → HasLongerFile files name most → (text : List ℕ) × HasFile files name text × (most < length text)
-longer_file None name most has = let some = long_text most in (some.0, tt, some.1)
-longer_file (Some file) name most has = long_there (file name) most has
+longer_file files name most has = grind (arith, long_text most, long_there)

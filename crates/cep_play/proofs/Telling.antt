@@ -1,7 +1,7 @@
 -- The status tells what is due.
-use Rattle.std.proofs.Common.{◌≡◌, ◌⊎◌, inl, inr, ⊎_elim, ℕ, zero, suc, ◌<◌, ◌≤◌, List, [], ◌∷◌, refl, sym, ap, ◌∙◌, subst, lit<, arith, Contains, Option, None, Some}
+use Rattle.std.proofs.Common.{◌≡◌, ◌⊎◌, inl, inr, ℕ, zero, suc, ◌<◌, ◌≤◌, List, [], ◌∷◌, refl, sym, ap, ◌∙◌, subst, lit<, arith, Contains, Option, None}
 use Rattle.cep_base.specs.Files.{Files, HasFile}
-use Rattle.cep_base.proofs.Elements.{contains_none, contains_cases, contains_behind, contains_same}
+use Rattle.cep_base.proofs.Elements.{contains_behind, contains_same}
 use Rattle.cep_base.proofs.Lists.{some_same}
 use Rattle.cep_rule.specs.declared.parts.Parts.{Parts}
 use Rattle.cep_rule.specs.Program.{IsProgram}
@@ -41,28 +41,22 @@ among_all {status} (all_read low same) = low_among status low
 among_all (one_unread seven unread) = subst (Contains all_statuses) (sym seven) (7, lit< tt, refl)
 
 pub no_fault : {loads : Loaded} {status : ℕ} → ComesWith loads status → (status ≡ 6) ⊎ (status ≡ 9) → ⊥
-no_fault (all_read low same) = ⊎_elim (λ e. omega (arith, low, e)) (λ e. omega (arith, low, e))
-no_fault (one_unread seven unread) = ⊎_elim (λ e. omega (arith, seven, e)) (λ e. omega (arith, seven, e))
+no_fault given = grind arith
 
 pub failed_by : {loads : Loaded} {status : ℕ} → ComesWith loads status → status ≡ 7 → IsUnread loads
 failed_by (all_read low same) seven = absurd (omega (arith, low, seven))
 failed_by (one_unread seven unread) _ = unread
 
 pub fails_by : {loads : Loaded} {status : ℕ} → ComesWith loads status → loads.faults_before < loads.faults_after → Contains (6 ∷ 7 ∷ 9 ∷ []) status
-fails_by (all_read low same) rose = absurd (omega (arith, same, rose))
-fails_by (one_unread seven unread) rose = subst (Contains (6 ∷ 7 ∷ 9 ∷ [])) (sym seven) (1, lit< tt, refl)
+fails_by given rose = grind arith
 
 -- a status that comes by out of memory or a fault of the console
 with_unread : (status : ℕ) → Contains (6 ∷ 9 ∷ []) status → Contains (6 ∷ 7 ∷ 9 ∷ []) status
-with_unread status among =
-    ⊎_elim (λ six. contains_same 6 (7 ∷ 9 ∷ []) status six)
-    (λ later. ⊎_elim (λ nine. contains_behind 6 (7 ∷ 9 ∷ []) status (contains_behind 7 (9 ∷ []) status (contains_same 9 [] status nine))) (λ none. absurd (contains_none status none)) (contains_cases 9 [] status later))
-    (contains_cases 6 (9 ∷ []) status among)
+with_unread status among = grind arith
 
 -- where the files are told, a file has one text
 told_text : (files : Option Files) (name text other : List ℕ) → IsOnShelf files name text → HasFile files name other → text ≡ other
-told_text None name text other told has = absurd told
-told_text (Some file) name text other told has = some_same text other (sym told ∙ has)
+told_text files name text other told has = grind (arith, some_same)
 
 module _ (one : IsOneRequest)
     (there : AreThere) (in_rounds : AreThereInRounds)
@@ -71,9 +65,7 @@ module _ (one : IsOneRequest)
     (words : List (List ℕ)) (loads : Loaded) where
   -- these statuses may come however a run ends
   ends_anyway : (players : Option ℕ) → SomePlay players → (text : List ℕ) (program : Parts) (settings : Settings) (come others : List ℕ) (status : ℕ) → Spells text program → Contains others status → EndsBy players program settings come others status
-  ends_anyway players some text program settings come others status spells among =
-      let end = some_end there in_rounds players some program settings come (is_program text program spells) in
-      (end.0, end.1, contains_behind (code_told end.0) others status among)
+  ends_anyway players some text program settings come others status spells among = let end = some_end there in_rounds players some program settings come (is_program text program spells) in (end.0, end.1, contains_behind (code_told end.0) others status among)
 
   reports_anyway : (P : Report → Type 0) (others : List ℕ) (status : ℕ) → Contains others status → ReportsBy P others status
   reports_anyway P others status among = ((λ report is. contains_behind report.code others status among), inl among)
@@ -90,9 +82,7 @@ module _ (one : IsOneRequest)
 
   -- what is due of words is due of what they ask for
   due_of : (unread : Type 0) (request : Request) (come : List ℕ) (due : Due) → AskFor words request → IsDueAtAll words unread (over come) due → IsDueOf request (over come) due ⊎ IsDueUnreadOf request (over come) due
-  due_of unread request come due ask (inl (inl none)) = absurd (none.0 request ask)
-  due_of unread request come due ask (inl (inr of)) = inl (asked_due one words request ask (λ r. IsDueOf r (over come) due) of)
-  due_of unread request come due ask (inr (_, of)) = inr (asked_due one words request ask (λ r. IsDueUnreadOf r (over come) due) of)
+  due_of unread request come due ask given = grind (arith, asked_due, over)
 
   module _ (due : Due) (status : ℕ) (same : status ≡ due.code) where
     unread_among : (other : Due) → other.code ≡ 7 → due ≡ other → Contains (6 ∷ 7 ∷ 9 ∷ []) status
