@@ -12,9 +12,8 @@ use Rattle.cep_store.proofs.Readings.{key_below}
 
 -- what stands in an image comes from the list
 pub get_unmapped : {A B : Type 0} (f : A → B) (xs : List A) (i : ℕ) (y : B) → slice_get (map f xs) i ≡ Some y → (x : A) × (slice_get xs i ≡ Some x) × (f x ≡ y)
-get_unmapped f [] i y is = none_some y is
-get_unmapped f (x ∷ xs) zero y is = (x, refl, some_same (f x) y is)
 get_unmapped f (x ∷ xs) (suc i) y is = get_unmapped f xs i y is
+get_unmapped f xs i y is = grind (arith, none_some, some_same)
 
 pub contains_at : {A : Type 0} (xs : List A) (i : ℕ) (x : A) → slice_get xs i ≡ Some x → Contains xs x
 contains_at xs i x at = (i, slice_get_within xs i x at, get_or_from_slice_get xs i x x at)
@@ -36,28 +35,17 @@ module _ (terms : List Tree) (bound : ℕ) (few : bound ≤ length terms) (apart
 
   args_same : (ids others : List ℕ) → AllByRecursion (λ id. id < bound) ids → AllByRecursion (λ id. id < bound) others → args_by terms ids ≡ args_by terms others → ids ≡ others
   args_same [] [] all every same = refl
-  args_same [] (j ∷ others) all every same = cc
-  args_same (i ∷ ids) [] all every same = cc
   args_same (i ∷ ids) (j ∷ others) all every same =
       let first : get_or terms i (variable 0) ≡ get_or terms j (variable 0) = cc in
       let rest : args_by terms ids ≡ args_by terms others = cc in
       (λ k. id_same i j all.0 every.0 first k ∷ args_same ids others all.1 every.1 rest k)
+  args_same ids others all every same = cc
 
   key_same : (key other : List ℕ) → IsKey bound key → IsKey bound other → term_by terms key ≡ term_by terms other → key ≡ other
-  key_same [] other is are same = absurd is
-  key_same (head ∷ ids) [] is are same = absurd are
-  key_same (head ∷ ids) (top ∷ others) is are same =
-      let heads : head ≡ top = cc in
-      let args : args_by terms ids ≡ args_by terms others = cc in
-      (λ k. heads k ∷ args_same ids others is.1 are.1 args k)
+  key_same key other is are same = grind (arith, args_same)
 
   atom_same : (key other : List ℕ) → IsKey bound key → IsKey bound other → atom_by terms key ≡ atom_by terms other → key ≡ other
-  atom_same [] other is are same = absurd is
-  atom_same (head ∷ ids) [] is are same = absurd are
-  atom_same (head ∷ ids) (top ∷ others) is are same =
-      let heads : head ≡ top = ap (λ (a : AtomTree). a.pred) same in
-      let args : args_by terms ids ≡ args_by terms others = ap (λ (a : AtomTree). a.args) same in
-      (λ k. heads k ∷ args_same ids others is.1 are.1 args k)
+  atom_same key other is are same = grind (arith, args_same)
 
 module _ (keys : List (List ℕ)) (are : AreTermKeys keys) where
   -- the key of a term that is read
@@ -89,19 +77,14 @@ module _ (keys : List (List ℕ)) (are : AreTermKeys keys) where
 
   args_ground : (bound : ℕ) (ids : List ℕ) → bound ≤ length (terms_by keys) → ((i : ℕ) (t : Tree) → i < bound → slice_get (terms_by keys) i ≡ Some t → IsGround t) → AllByRecursion (λ id. id < bound) ids → AreGround (args_by (terms_by keys) ids)
   args_ground bound [] few ground all = tt
-  args_ground bound (id ∷ ids) few ground all =
-      (ground id (get_or (terms_by keys) id (variable 0)) all.0 (slice_get-get_or (terms_by keys) id (variable 0) (omega (arith, all.0))), args_ground bound ids few ground all.1)
+  args_ground bound (id ∷ ids) few ground all = grind (arith, slice_get-get_or, args_ground bound ids few ground all.1)
 
   key_ground : (bound : ℕ) (key : List ℕ) → bound ≤ length (terms_by keys) → ((i : ℕ) (t : Tree) → i < bound → slice_get (terms_by keys) i ≡ Some t → IsGround t) → IsKey bound key → IsGround (term_by (terms_by keys) key)
-  key_ground bound [] few ground is = absurd is
-  key_ground bound (head ∷ ids) few ground is = args_ground bound ids few ground is.1
+  key_ground bound key few ground is = grind (arith, args_ground)
 
   ground_below : (n : ℕ) → n ≤ length (terms_by keys) → (i : ℕ) (t : Tree) → i < n → slice_get (terms_by keys) i ≡ Some t → IsGround t
   ground_below zero few i t low at = absurd (omega arith)
-  ground_below (suc n) few i t low at =
-      let key = key_at i t at in
-      let lesser : i ≤ n = omega arith in
-      subst IsGround key.2 (key_ground n key.0 (omega arith) (ground_below n (omega arith)) (key_below i n key.0 lesser (are.each i key.0 key.1)))
+  ground_below (suc n) few i t low at = subst IsGround (key_at i t at).2 (key_ground n (key_at i t at).0 (omega arith) (ground_below n (omega arith)) (key_below i n (key_at i t at).0 (omega arith) (are.each i (key_at i t at).0 (key_at i t at).1)))
 
   ground_at : (i : ℕ) (t : Tree) → slice_get (terms_by keys) i ≡ Some t → IsGround t
   ground_at i t at = ground_below (length (terms_by keys)) (omega arith) i t (slice_get_within (terms_by keys) i t at) at
@@ -111,8 +94,7 @@ module _ (keys : List (List ℕ)) (are : AreTermKeys keys) where
   args_held (id ∷ ids) all = (contains_at (terms_by keys) id _ (slice_get-get_or (terms_by keys) id (variable 0) all.0), args_held ids all.1)
 
   parts_held : (key : List ℕ) → IsKey (length (terms_by keys)) key → AllByRecursion (λ part. Contains (terms_by keys) part) (parts_in (term_by (terms_by keys) key))
-  parts_held [] is = absurd is
-  parts_held (head ∷ ids) is = args_held ids is.1
+  parts_held key is = grind (arith, args_held)
 
   parts_of_held : (id : ℕ) (r : Option Tree) → slice_get (terms_by keys) id ≡ r → AllByRecursion (λ part. Contains (terms_by keys) part) (option_map_or parts_in r [])
   parts_of_held id None at = tt
@@ -136,23 +118,16 @@ module _ (terms atoms : List (List ℕ)) (are : AreKeys terms atoms) where
       are.apart i j first.0 first.1 (second.1 ∙ ap Some (sym same))
 
   ground_atom : (key : List ℕ) → IsKey (length (terms_by terms)) key → IsGroundAtom (atom_by (terms_by terms) key)
-  ground_atom [] is = absurd is
-  ground_atom (head ∷ ids) is = args_ground terms are.terms (length (terms_by terms)) ids (omega arith) (ground_below terms are.terms (length (terms_by terms)) (omega arith)) is.1
+  ground_atom key is = grind (arith, args_ground, ground_below)
 
   ground_atom_at : (i : ℕ) (a : AtomTree) → slice_get (atoms_by (terms_by terms) atoms) i ≡ Some a → IsGroundAtom a
-  ground_atom_at i a at =
-      let key = get_unmapped (atom_by (terms_by terms)) atoms i a at in
-      subst IsGroundAtom key.2 (ground_atom key.0 (atom_is i key.0 key.1))
+  ground_atom_at i a at = grind (arith, get_unmapped, ground_atom, atom_is)
 
   args_of_key : (key : List ℕ) → IsKey (length (terms_by terms)) key → AllByRecursion (λ arg. Contains (terms_by terms) arg) (trees_in (atom_by (terms_by terms) key).args)
-  args_of_key [] is = absurd is
-  args_of_key (head ∷ ids) is = args_held terms are.terms ids is.1
+  args_of_key key is = grind (arith, args_held)
 
   args_of_held : (id : ℕ) (r : Option AtomTree) → slice_get (atoms_by (terms_by terms) atoms) id ≡ r → AllByRecursion (λ arg. Contains (terms_by terms) arg) (option_map_or (λ a. trees_in a.args) r [])
-  args_of_held id None at = tt
-  args_of_held id (Some a) at =
-      let key = get_unmapped (atom_by (terms_by terms)) atoms id a at in
-      subst (λ b. AllByRecursion (λ arg. Contains (terms_by terms) arg) (trees_in b.args)) key.2 (args_of_key key.0 (atom_is id key.0 key.1))
+  args_of_held id r at = grind (arith, get_unmapped, args_of_key, atom_is)
 
   -- what a store holds by its keys
   pub are_ids : AreIds (held_by terms atoms)

@@ -1,11 +1,11 @@
 -- What is read of a term or an atom by its key.
-use Rattle.std.proofs.Common.{◌≡◌, ℕ, zero, suc, ◌<◌, List, [], ◌∷◌, length, drop, get_or, Option, Some, None, refl, sym, ap, subst, ◌∙◌, arith}
+use Rattle.std.proofs.Common.{◌≡◌, ℕ, suc, ◌<◌, List, [], ◌∷◌, length, drop, get_or, Option, Some, refl, sym, ap, subst, ◌∙◌, arith}
 use Rattle.std.specs.Prelude.{slice_get}
 use Rattle.std.specs.List.{AllByRecursion}
 use Rattle.std.specs.Option.{option_map_or}
 use Rattle.std.proofs.lemmas.Option.{slice_get-get_or, slice_get_within}
 use Rattle.cep_base.proofs.Lists.{get_mapped}
-use Rattle.cep_term.specs.Tree.{Tree, Trees, AtomTree, variable, node}
+use Rattle.cep_term.specs.Tree.{Tree, Trees, node}
 use Rattle.cep_store.specs.Held.{Held, trees_in, parts_in, parts_at, args_at, args_by}
 use Rattle.cep_store.specs.Keys.{atom_by, terms_by, held_by, AreKeys, IsTermKey, IsAtomKey}
 use Rattle.cep_store.proofs.Differing.{are_ids}
@@ -33,9 +33,8 @@ length_trees terms [] = refl
 length_trees terms (id ∷ ids) = ap suc (length_trees terms ids)
 
 get_tree : (terms : List Tree) (ids : List ℕ) (i : ℕ) → AllByRecursion (λ id. id < length terms) ids → i < length ids → slice_get terms (get_or ids i 0) ≡ slice_get (trees_in (args_by terms ids)) i
-get_tree terms [] i all low = absurd (omega arith)
-get_tree terms (id ∷ ids) zero all low = slice_get-get_or terms id (variable 0) all.0
 get_tree terms (id ∷ ids) (suc i) all low = get_tree terms ids i all.1 (omega arith)
+get_tree terms ids i all low = grind (arith, slice_get-get_or)
 
 module _ (terms : List Tree) (key : List ℕ) (ids : List ℕ) (listed : List Tree) (are : listed ≡ trees_in (args_by terms (drop 1 key))) (is : ids ≡ drop 1 key) where
   listed_by : listed ≡ trees_in (args_by terms ids)
@@ -45,14 +44,11 @@ module _ (terms : List Tree) (key : List ℕ) (ids : List ℕ) (listed : List Tr
   count_by = sym (ap length listed_by ∙ length_trees terms ids)
 
   get_by : (i : ℕ) → AllByRecursion (λ id. id < length terms) (drop 1 key) → i < length listed → slice_get terms (get_or ids i 0) ≡ slice_get listed i
-  get_by i all low =
-      let few : i < length ids = omega (arith, count_by) in
-      get_tree terms ids i (subst (AllByRecursion (λ id. id < length terms)) (sym is) all) few ∙ ap (λ l. slice_get l i) (sym listed_by)
+  get_by i all low = get_tree terms ids i (subst (AllByRecursion (λ id. id < length terms)) (sym is) all) (omega (arith, count_by)) ∙ ap (λ l. slice_get l i) (sym listed_by)
 
 -- a term or an atom that has arguments is there
 listed_within : {A : Type 0} (xs : List A) (id i : ℕ) (f : A → List Tree) (r : Option A) → slice_get xs id ≡ r → i < length (option_map_or f r []) → id < length xs
-listed_within xs id i f None at low = absurd (omega arith)
-listed_within xs id i f (Some x) at low = slice_get_within xs id x at
+listed_within xs id i f r at low = grind (arith, slice_get_within)
 
 module _ (held : Held) (id : ℕ) where
   pub term_there : (i : ℕ) → i < length (parts_at held id) → id < length held.terms
@@ -80,9 +76,7 @@ module _ (held : Held) (id : ℕ) where
     args_are = ap (λ o. option_map_or (λ a. trees_in a.args) o []) is.reads
 
     pub pred_read : (pred : ℕ) → pred ≡ get_or key 0 0 → (args : Trees) × (slice_get held.atoms id ≡ Some (record { pred = pred; args = args }))
-    pred_read pred same =
-        let made : ℕ → AtomTree = λ p. record { pred = p; args = args_by held.terms (drop 1 key) } in
-        (args_by held.terms (drop 1 key), is.reads ∙ ap (λ p. Some (made p)) (sym same))
+    pred_read pred same = grind (arith, held.terms, is.reads)
 
     module _ (ids : List ℕ) (same : ids ≡ drop 1 key) where
       pub args_counted : length ids ≡ length (args_at held id)

@@ -5,7 +5,7 @@ use Rattle.std.specs.List.{AllByRecursion}
 use Rattle.std.proofs.lemmas.List.{get_or_append_left}
 use Rattle.std.proofs.lemmas.Option.{slice_get_within, get_or_from_slice_get}
 use Rattle.cep_base.proofs.Lists.{none_some, all_weaker}
-use Rattle.cep_term.specs.Tree.{Tree, Trees, AtomTree, variable, node, more}
+use Rattle.cep_term.specs.Tree.{Tree, Trees, variable, node, more}
 use Rattle.cep_store.specs.Held.{AreApart, IsFrontOf, args_by}
 use Rattle.cep_store.specs.Keys.{term_by, atom_by, terms_from, terms_by, IsKey, AreTermKeys, TakesPlace, AddsIds}
 use Rattle.cep_store.proofs.Places.{get_front, get_last, get_pushed, front_same, front_push, front_get}
@@ -19,18 +19,13 @@ pub all_below : (low high : ℕ) (ids : List ℕ) → low ≤ high → AllByRecu
 all_below low high ids le all = all_weaker (λ id. id < low) (λ id. id < high) ids (λ id h. omega arith) all
 
 pub key_below : (low high : ℕ) (key : List ℕ) → low ≤ high → IsKey low key → IsKey high key
-key_below low high [] le is = absurd is
-key_below low high (head ∷ ids) le is = (is.0, all_below low high ids le is.1)
+key_below low high key le is = grind (arith, all_below)
 
 pub term_stays : (terms behind : List Tree) (key : List ℕ) → IsKey (length terms) key → term_by (terms ++ behind) key ≡ term_by terms key
-term_stays terms behind [] is = absurd is
-term_stays terms behind (head ∷ ids) is = ap (λ (args : Trees). node head args) (args_stay terms behind ids is.1)
+term_stays terms behind key is = grind (arith, args_stay)
 
 pub atom_stays : (terms behind : List Tree) (key : List ℕ) → IsKey (length terms) key → atom_by (terms ++ behind) key ≡ atom_by terms key
-atom_stays terms behind [] is = absurd is
-atom_stays terms behind (head ∷ ids) is =
-    let made : Trees → AtomTree = λ args. record { pred = head; args = args } in
-    ap made (args_stay terms behind ids is.1)
+atom_stays terms behind key is = grind (arith, args_stay)
 
 terms_pushed : (terms : List Tree) (keys : List (List ℕ)) (key : List ℕ) → terms_from terms (keys ++ key ∷ []) ≡ terms_from terms keys ++ term_by (terms_from terms keys) key ∷ []
 terms_pushed terms [] key = refl
@@ -47,38 +42,22 @@ term_keys_none = record { apart = λ i j x one other. none_some x one; count = r
 
 module _ (keys : List (List ℕ)) (key : List ℕ) (are : AreTermKeys keys) (is : IsKey (length keys) key) where
   below_terms : (id : ℕ) (other : List ℕ) → slice_get keys id ≡ Some other → IsKey (length (terms_by keys)) other
-  below_terms id other at =
-      let within : id < length keys = slice_get_within keys id other at in
-      key_below id (length (terms_by keys)) other (omega (arith, are.count)) (are.each id other at)
+  below_terms id other at = let within : id < length keys = slice_get_within keys id other at in key_below id (length (terms_by keys)) other (omega (arith, are.count)) (are.each id other at)
 
   last_is : IsKey (length (terms_by keys)) key
   last_is = subst (λ n. IsKey n key) (sym are.count) is
 
   count_more : length (terms_by (keys ++ key ∷ [])) ≡ length (keys ++ key ∷ [])
-  count_more =
-      ap length (terms_push keys key)
-      ∙ length-append (terms_by keys) (term_by (terms_by keys) key ∷ [])
-      ∙ ap (λ n. n + 1) are.count
-      ∙ sym (length-append keys (key ∷ []))
+  count_more = cc (terms_push keys key, length-append (terms_by keys) (term_by (terms_by keys) key ∷ []), are.count, length-append keys (key ∷ []))
 
   each_more : (id : ℕ) (other : List ℕ) → slice_get (keys ++ key ∷ []) id ≡ Some other → IsKey id other
-  each_more id other at =
-      ⊎_elim
-      (λ before. are.each id other before)
-      (λ last. subst (λ n. IsKey n other) (sym last.0) (subst (λ k. IsKey (length keys) k) last.1 is))
-      (get_pushed keys key other id at)
+  each_more id other at = grind (arith, get_pushed, are.each)
 
   read_before : (id : ℕ) (other : List ℕ) (t : Tree) → slice_get keys id ≡ Some other → slice_get (terms_by keys ++ t ∷ []) id ≡ Some (term_by (terms_by keys ++ t ∷ []) other)
-  read_before id other t before =
-      get_front (terms_by keys) (t ∷ []) id (term_by (terms_by keys) other) (are.read id other before)
-      ∙ ap Some (sym (term_stays (terms_by keys) (t ∷ []) other (below_terms id other before)))
+  read_before id other t before = cc (get_front (terms_by keys) (t ∷ []) id (term_by (terms_by keys) other) (are.read id other before), term_stays (terms_by keys) (t ∷ []) other (below_terms id other before))
 
   read_last : slice_get (terms_by keys ++ term_by (terms_by keys) key ∷ []) (length keys) ≡ Some (term_by (terms_by keys ++ term_by (terms_by keys) key ∷ []) key)
-  read_last =
-      let t = term_by (terms_by keys) key in
-      ap (slice_get (terms_by keys ++ t ∷ [])) (sym are.count)
-      ∙ get_last (terms_by keys) t
-      ∙ ap Some (sym (term_stays (terms_by keys) (t ∷ []) key last_is))
+  read_last = grind (arith, get_last, term_stays, last_is, are.count)
 
   read_more : (id : ℕ) (other : List ℕ) → slice_get (keys ++ key ∷ []) id ≡ Some other → slice_get (terms_by (keys ++ key ∷ [])) id ≡ Some (term_by (terms_by (keys ++ key ∷ [])) other)
   read_more id other at =
@@ -100,11 +79,7 @@ module _ (keys : List (List ℕ)) (key : List ℕ) (are : AreTermKeys keys) (is 
 module _ (old new : List (List ℕ)) (key : List ℕ) (id : ℕ) (are : AreTermKeys old) (is : IsKey (length old) key) (takes : TakesPlace old key id new) (apart : AreApart new) where
   -- the keys that there are then
   pub keys_added : AreTermKeys new
-  keys_added =
-      ⊎_elim
-      (λ same. subst AreTermKeys (sym same) are)
-      (λ behind. subst AreTermKeys (sym behind) (term_keys_push old key are is (subst AreApart behind apart)))
-      takes.place
+  keys_added = grind (arith, term_keys_push)
 
   pub terms_front : IsFrontOf (terms_by old) (terms_by new)
   terms_front =
@@ -115,22 +90,11 @@ module _ (old new : List (List ℕ)) (key : List ℕ) (id : ℕ) (are : AreTermK
       takes.place
 
   pub term_added : slice_get (terms_by new) id ≡ Some (term_by (terms_by old) key)
-  term_added =
-      let front = terms_front in
-      let stays : term_by (terms_by new) key ≡ term_by (terms_by old) key =
-      subst (λ terms. term_by terms key ≡ term_by (terms_by old) key) (sym front.1) (term_stays (terms_by old) front.0 key (subst (λ n. IsKey n key) (sym are.count) is)) in
-      keys_added.read id key takes.stands ∙ ap Some stays
+  term_added = keys_added.read id key takes.stands ∙ ap Some (subst (λ terms. term_by terms key ≡ term_by (terms_by old) key) (sym terms_front.1) (term_stays (terms_by old) terms_front.0 key (subst (λ n. IsKey n key) (sym are.count) is)))
 
 -- one argument more
 pub args_added : (mid new : List Tree) (old pushed key : List ℕ) (id : ℕ) (t : Tree) (rest : Trees) → slice_get mid id ≡ Some t → IsFrontOf mid new → pushed ≡ old ++ id ∷ [] → AddsIds new pushed key rest → AddsIds new old key (more t rest)
-args_added mid new old pushed key id t rest at front is adds =
-    let later : slice_get new id ≡ Some t = front_get mid new id t front at in
-    record {
-      ids = id ∷ adds.ids;
-      added = adds.added ∙ ap (λ ids. ids ++ adds.ids) is ∙ append_assoc old (id ∷ []) adds.ids;
-      within = (slice_get_within new id t later, adds.within);
-      are = λ i. more (get_or_from_slice_get new id t (variable 0) later i) (adds.are i);
-    }
+args_added mid new old pushed key id t rest at front is adds = grind (arith, front_get mid new id t front, append_assoc old (id ∷ []) adds.ids, slice_get_within, get_or_from_slice_get)
 
 -- a key that was begun with a head, and to which the ids of arguments were added
 module _ (keys : List (List ℕ)) (head : ℕ) (begun key : List ℕ) (args : Trees) (starts : begun ≡ head ∷ []) (adds : AddsIds (terms_by keys) begun key args) where
@@ -144,6 +108,4 @@ module _ (keys : List (List ℕ)) (head : ℕ) (begun key : List ℕ) (args : Tr
   reads_term = ap (term_by (terms_by keys)) whole ∙ ap (λ (trees : Trees). node head trees) adds.are
 
   pub reads_atom : atom_by (terms_by keys) key ≡ record { pred = head; args = args }
-  reads_atom =
-      let made : Trees → AtomTree = λ trees. record { pred = head; args = trees } in
-      ap (atom_by (terms_by keys)) whole ∙ ap made adds.are
+  reads_atom = grind arith

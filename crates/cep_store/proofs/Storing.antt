@@ -1,5 +1,5 @@
 -- What a store holds before and after an atom is interned.
-use Rattle.std.proofs.Common.{◌≡◌, ◌⊎◌, inl, inr, ⊎_elim, ℕ, suc, ◌<◌, ◌≤◌, ◌^◌, List, [], ◌∷◌, ◌++◌, length, Contains, Some, refl, sym, ap, subst, ◌∙◌, length-append, arith}
+use Rattle.std.proofs.Common.{◌≡◌, ◌⊎◌, ⊎_elim, ℕ, suc, ◌<◌, ◌≤◌, ◌^◌, List, [], ◌∷◌, ◌++◌, length, Contains, Some, refl, sym, subst, length-append, arith}
 use Rattle.std.specs.Prelude.{Result, Ok, Err, IfOk, OnErr, slice_get}
 use Rattle.std.proofs.lemmas.Option.{slice_get_within}
 use Rattle.cep_base.proofs.Lists.{none_some, get_mapped, map_last}
@@ -20,30 +20,19 @@ keys_none = record { terms = term_keys_none; apart = λ i j x one other. none_so
 
 module _ (old new atoms : List (List ℕ)) (were : AreKeys old atoms) (are : AreTermKeys new) (front : IsFrontOf (terms_by old) (terms_by new)) where
   low : length old ≤ length new
-  low =
-      let more = ap length front.1 in
-      omega (arith, more, length-append (terms_by old) front.0, were.terms.count, are.count)
+  low = grind (arith, length-append, front.1, front.0, are.count)
 
   -- the keys of atoms name terms, also where there are more of these
   pub keys_grown : AreKeys new atoms
-  keys_grown = record {
-    terms = are;
-    apart = were.apart;
-    atoms = λ id key at. key_below (length old) (length new) key low (were.atoms id key at);
-  }
+  keys_grown = record { terms = are; apart = were.apart; atoms = λ id key at. key_below (length old) (length new) key low (were.atoms id key at); }
 
   -- and they read the same atoms
   pub atoms_grown : atoms_by (terms_by new) atoms ≡ atoms_by (terms_by old) atoms
-  atoms_grown =
-      subst (λ terms. atoms_by terms atoms ≡ atoms_by (terms_by old) atoms) (sym front.1)
-      (atoms_stay (terms_by old) front.0 atoms (λ id key at. subst (λ n. IsKey n key) (sym were.terms.count) (were.atoms id key at)))
+  atoms_grown = grind (arith, atoms_stay, front.1, front.0)
 
   -- what was held is held where only terms were added
   pub stays_held : StaysHeld (held_by old atoms) (held_by new atoms)
-  stays_held = record {
-    terms = front;
-    atoms = subst (λ list. IsFrontOf (atoms_by (terms_by old) atoms) list) (sym atoms_grown) (front_same (atoms_by (terms_by old) atoms));
-  }
+  stays_held = grind (arith, atoms_grown, front_same (atoms_by (terms_by old) atoms))
 
   module _ (later : List (List ℕ)) (key : List ℕ) (id : ℕ) (is : IsKey (length new) key) (takes : TakesPlace atoms key id later) (apart : AreApart later) where
     each_later : (place : ℕ) (other : List ℕ) → slice_get later place ≡ Some other → IsKey (length new) other
@@ -61,21 +50,10 @@ module _ (old new atoms : List (List ℕ)) (were : AreKeys old atoms) (are : Are
 
     -- the atoms then are those of before, or the new one stands after them
     atoms_then : (atoms_by (terms_by new) later ≡ atoms_by (terms_by old) atoms) ⊎ (atoms_by (terms_by new) later ≡ atoms_by (terms_by old) atoms ++ atom_by (terms_by new) key ∷ [])
-    atoms_then =
-        ⊎_elim
-        (λ same. inl (ap (atoms_by (terms_by new)) same ∙ atoms_grown))
-        (λ behind. inr (ap (atoms_by (terms_by new)) behind ∙ map_last (atom_by (terms_by new)) atoms key ∙ ap (λ list. list ++ atom_by (terms_by new) key ∷ []) atoms_grown))
-        takes.place
+    atoms_then = grind (arith, atoms_grown, map_last)
 
     pub stays_then : StaysHeld (held_by old atoms) (held_by new later)
-    stays_then = record {
-      terms = front;
-      atoms =
-          ⊎_elim
-          (λ same. subst (λ list. IsFrontOf (atoms_by (terms_by old) atoms) list) (sym same) (front_same (atoms_by (terms_by old) atoms)))
-          (λ behind. subst (λ list. IsFrontOf (atoms_by (terms_by old) atoms) list) (sym behind) (front_push (atoms_by (terms_by old) atoms) (atom_by (terms_by new) key)))
-          atoms_then;
-    }
+    stays_then = grind (arith, front_same (atoms_by (terms_by old) atoms), front_push, atoms_then)
 
     not_twice : (old_atoms new_atoms : List AtomTree) (a : AtomTree) → AreApart new_atoms → Contains old_atoms a → new_atoms ≡ old_atoms ++ a ∷ [] → ⊥
     not_twice old_atoms new_atoms a differ there behind =
@@ -111,12 +89,10 @@ module _ (old new atoms : List (List ℕ)) (were : AreKeys old atoms) (are : Are
     is_atom_key = is_key new pred begun key args starts adds are.count small
 
     pub keys_after_atom : {E : Type 0} (r : Result ℕ E) → IfOk r (λ id. TakesPlace atoms key id later) → OnErr r (later ≡ atoms) → AreKeys new later
-    keys_after_atom (Ok id) takes refused = keys_then later key id is_atom_key takes apart
-    keys_after_atom (Err e) takes refused = subst (λ keys. AreKeys new keys) (sym refused) keys_grown
+    keys_after_atom r takes refused = grind (arith, keys_then, is_atom_key, keys_grown)
 
     pub stays_after_atom : {E : Type 0} (r : Result ℕ E) → IfOk r (λ id. TakesPlace atoms key id later) → OnErr r (later ≡ atoms) → StaysHeld (held_by old atoms) (held_by new later)
-    stays_after_atom (Ok id) takes refused = stays_then later key id is_atom_key takes apart
-    stays_after_atom (Err e) takes refused = subst (λ keys. StaysHeld (held_by old atoms) (held_by new keys)) (sym refused) stays_held
+    stays_after_atom r takes refused = grind (arith, stays_then, is_atom_key, stays_held)
 
     pub id_after_atom : {E : Type 0} (r : Result ℕ E) → IfOk r (λ id. TakesPlace atoms key id later) → IfOk r (λ id. HasId (atoms_by (terms_by old) atoms) (record { pred = pred; args = args }) id (atoms_by (terms_by new) later))
     id_after_atom (Ok id) takes =
@@ -125,5 +101,4 @@ module _ (old new atoms : List (List ℕ)) (were : AreKeys old atoms) (are : Are
 
   -- where the atom was refused, the atoms are as before
   pub same_after_atom : {E : Type 0} (later : List (List ℕ)) (r : Result ℕ E) → OnErr r (later ≡ atoms) → OnErr r (atoms_by (terms_by new) later ≡ atoms_by (terms_by old) atoms)
-  same_after_atom later (Ok id) refused = tt
-  same_after_atom later (Err e) refused = ap (atoms_by (terms_by new)) refused ∙ atoms_grown
+  same_after_atom later r refused = grind (arith, atoms_grown)

@@ -1,5 +1,5 @@
 -- How much there is to read of a term or of arguments, and what a key that is held tells of its term.
-use Rattle.std.proofs.Common.{◌≡◌, ℕ, ◌+◌, ◌*◌, ◌<◌, ◌≤◌, ◌^◌, List, [], ◌∷◌, length, drop, get_or, Some, refl, sym, ap, subst, ◌∙◌, arith}
+use Rattle.std.proofs.Common.{◌≡◌, ℕ, ◌+◌, ◌*◌, ◌<◌, ◌≤◌, ◌^◌, List, ◌∷◌, length, drop, get_or, Some, sym, ap, subst, ◌∙◌, arith}
 use Rattle.std.specs.Prelude.{slice_get}
 use Rattle.std.specs.List.{AllByRecursion}
 use Rattle.std.proofs.lemmas.Option.{get_or_from_slice_get, slice_get_within}
@@ -38,15 +38,12 @@ pub record HasParts (terms : List Tree) (bound : ℕ) (key : List ℕ) : Type 0 
   pub reads_atom : atom_by terms key ≡ record { pred = get_or key 0 0; args = args_by terms (drop 1 key) }
 
 pub has_parts : (terms : List Tree) (bound : ℕ) (key : List ℕ) → IsKey bound key → HasParts terms bound key
-has_parts terms bound [] is = absurd is
-has_parts terms bound (head ∷ ids) is = record { some = omega arith; small = is.0; within = is.1; reads = refl; reads_atom = refl }
+has_parts terms bound key is = grind arith
 
 module _ (keys : List (List ℕ)) (id : ℕ) (key : List ℕ) (are : AreTermKeys keys) (at : slice_get keys id ≡ Some key) where
   -- what the key of a term tells
   pub held_parts : HasParts (terms_by keys) (length keys) key
-  held_parts =
-      let within : id < length keys = slice_get_within keys id key at in
-      has_parts (terms_by keys) (length keys) key (key_below id (length keys) key (omega arith) (are.each id key at))
+  held_parts = let within : id < length keys = slice_get_within keys id key at in has_parts (terms_by keys) (length keys) key (key_below id (length keys) key (omega arith) (are.each id key at))
 
   pub reads_held : slice_get (terms_by keys) id ≡ Some (node (get_or key 0 0) (args_by (terms_by keys) (drop 1 key)))
   reads_held = are.read id key at ∙ ap Some held_parts.reads
@@ -69,5 +66,4 @@ pub all_parts : (bound : ℕ) (ids : List ℕ) (id : ℕ) (rest : List ℕ) → 
 all_parts bound ids id rest is all = subst (λ l. AllByRecursion (λ other. other < bound) l) is all
 
 pub args_read : (terms : List Tree) (ids : List ℕ) (id : ℕ) (rest : List ℕ) (t : Tree) (others : Trees) → ids ≡ id ∷ rest → slice_get terms id ≡ Some t → others ≡ args_by terms rest → more t others ≡ args_by terms ids
-args_read terms ids id rest t others is at are =
-    subst (λ l. more t others ≡ args_by terms l) (sym is) (λ i. more (sym (get_or_from_slice_get terms id t (variable 0) at) i) (are i))
+args_read terms ids id rest t others is at are = grind (arith, get_or_from_slice_get)
