@@ -36,8 +36,8 @@ returns-in-TooFull c =
     (subst (λ (values : List Tree). AllByRecursion IsFit (full_instances values c.args.rule.now.right)) c.in_ok-new.ensures c.in_default.ensures)
     c.in-TooFull.number c.in-TooFull.ensures
 
-pub returns : goal.returns
-returns c =
+pub returns-in_ok-of-in-Fits : goal.returns-in_ok-of-in-Fits
+returns-in_ok-of-in-Fits c =
     let spot : Spot = record { stage = c.args.stage; state = c.args.state.now } in
     within c.steps_are_lawful.ensures c.args.parts.now c.args.rule.now c.args.values.now spot c.requires.ready c.in_ok-taken.taken c.in_ok-added.added c.in_ok-gains.gains c.in_ok-taken.ensures c.in_ok-added.ensures c.in_ok-gains.ensures
     (subst (λ (values : List Tree). AllByRecursion IsFit (full_instances values c.args.rule.now.right)) c.in_ok-new.ensures c.in_default.ensures)
