@@ -11,11 +11,7 @@ heard_more n from (first ∷ hearings) between hearing to are is = (are.0, are.1
 
 events_more : (player : ℕ) (hearings : List Hearing) (hearing : Hearing) → hearing_events player (hearings ++ hearing ∷ []) ≡ hearing_events player hearings ++ (outs (choose_line (player + length hearings)) ++ hearing.events)
 events_more player [] hearing = let e : player + 0 ≡ player = omega arith in rw (append-nil hearing.events, e) refl
-events_more player (first ∷ hearings) hearing =
-    let e : player + 1 + length hearings ≡ player + suc (length hearings) = omega arith in
-    let later = hearing_events (player + 1) hearings in
-    let last = outs (choose_line (player + suc (length hearings))) ++ hearing.events in
-    rw (events_more (player + 1) hearings hearing, e, append_assoc (outs (choose_line player)) (first.events ++ later) last, append_assoc first.events later last) refl
+events_more player (first ∷ hearings) hearing = grind (arith, hearing_events, outs, choose_line, append_assoc, events_more (player + 1) hearings hearing)
 
 module _ (offers : List Offer) (old : Spent) where
   -- nobody was asked yet
@@ -41,17 +37,7 @@ module _ (offers : List Offer) (old : Spent) where
         }
 
     one_does_not : (players : ℕ) (word : EndWord) → IsCutOff choice word → i < players → OneDoesNot players offers word old new come (first ++ second) rest
-    one_does_not players word cut few = record {
-      hearings = all.hearings;
-      last = one.heard;
-      choice = choice;
-      fewer = omega (arith, all.of_each, few);
-      between = supply_with middle now;
-      before = all.heard;
-      heard = (one.hears, refl);
-      cut_off = cut;
-      written = rw (all.written, one.whole, sym all.of_each) refl;
-    }
+    one_does_not players word cut few = grind (arith, supply_with)
 
     one_stops : (players : ℕ) (word : EndWord) → IsCutOff choice word → i < players → BeginsSome (ChooseSome players offers old) come (first ++ second)
     one_stops players word cut few = record { more = []; left = rest; whole = inr (word, new, rw (append-nil (first ++ second)) (one_does_not players word cut few)) }

@@ -85,14 +85,7 @@ module _ (program : Parts) (settings : Settings) (at : Position) (offers : List 
     }
 
     acts_stop : (word : EndWord) → CannotDo program settings.limit offer here word middle second rest → StopsAct program settings at here offers word come (first ++ second) rest
-    acts_stop word cannot = record {
-      next = offer;
-      later = later;
-      acts = record { deeds = acts.deeds; done = acts.done; order = acts.order; written = rw (cannot.unwritten, append-nil first) acts.written; untaken = cannot.untaken ∙ acts.untaken };
-      rule = cannot.rule;
-      numbered = cannot.numbered;
-      stops = cannot.stops;
-    }
+    acts_stop word cannot = grind (arith, later, append-nil)
 
   -- the next one was refused
   acts_refused : (here : Position) (offer : Offer) (later : List Offer) → here.turns ≤ settings.limit → (come middle rest : List ℕ) (first second : List Event) → ActsSome program settings.height at here offers (offer ∷ later) come first middle
@@ -127,9 +120,7 @@ module _ {C M : Type 0} (talk : C → Option (List Event)) (left : C → Option 
   module _ (i : ℕ) (config : Configuration M) (console : C) (gone : GoneTo i config console) where
     -- all were gone through
     pub gone_all : length chosen ≤ i → (config.turns ≡ start.turns + length (admitted chosen flags)) × Did talk left old console (ActsSome program settings.height (position_of start) (position_of config) (admitted chosen flags) [])
-    gone_all over =
-        let all : admitted chosen flags ≡ admitted (take i chosen) (take i flags) = rw (split_admitted chosen flags i, drop_of_length-le chosen over, append-nil (admitted (take i chosen) (take i flags))) refl in
-        (rw all gone.counted, rw (drop_of_length-le chosen over) at gone.so_far)
+    gone_all over = grind (arith, admitted chosen flags, admitted (take i chosen) (take i flags), split_admitted chosen flags i, drop_of_length-le chosen over, append-nil (admitted (take i chosen) (take i flags)))
 
     -- the next one is blocked
     pub gone_past : i < length chosen → slice_get flags i ≡ Some false → GoneTo (i + 1) config console
@@ -149,12 +140,11 @@ module _ {C M : Type 0} (talk : C → Option (List Event)) (left : C → Option 
       pub gone_on : (next : Configuration M) → IsOfferMoved program settings offer config (Done next) → IsOfferActed talk left console new program settings offer config (Done next) → GoneTo (i + 1) next new
       gone_on next (done, stage, counted, remain) acted =
           let more = next_admitted chosen flags i offer there flagged in
-          let many = ap length more ∙ length-append (admitted (take i chosen) (take i flags)) (offer ∷ []) in
           record {
             few = omega (arith, counted, remain);
             moved = rw more (done_more program settings.height start.state (admitted (take i chosen) (take i flags)) config.state next.state offer gone.moved done);
             stage = stage ∙ gone.stage;
-            counted = omega (arith, counted, gone.counted, many);
+            counted = omega (arith, counted, gone.counted, (ap length more ∙ length-append (admitted (take i chosen) (take i flags)) (offer ∷ [])));
             so_far = did_then talk left old console new _ _ _ (λ come first middle second rest acts does. acts_more program settings (position_of start) (admitted chosen flags) (position_of config) offer later come middle rest first second acts (position_of next) does) waiting acted;
           }
 

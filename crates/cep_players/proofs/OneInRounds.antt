@@ -29,9 +29,7 @@ module _ (one_list : (program : Parts) (height : ℕ) (state : Multiset) (group 
 
   module _ (n : ℕ) (few : n ≤ MOST_OFFERS) where
     one_heard : (from : Supply) (events events' : List Event) (choice choice' : Choice) (to to' : Supply) → IsHeard n from events choice to → IsHeard n from events' choice' to' → (events ≡ events') × (choice ≡ choice') × (to ≡ to')
-    one_heard from events events' choice choice' to to' is is' =
-        let same = one_choice n from.taken to.taken to'.taken from.come to.come to'.come events events' choice choice' (omega (arith, few)) is.0 is'.0 in
-        (same.0, same.1, λ i. record { come = same.2 i; taken = same.3 i; drawn = (is.1 ∙ sym is'.1) i })
+    one_heard from events events' choice choice' to to' is is' = grind (arith, from.taken, to.taken, to'.taken, from.come, to.come, to'.come, is.0, is'.0, is.1, is'.1)
 
     same_heard : (from : Supply) (hearings hearings' : List Hearing) (to to' : Supply) → AreHeard n from hearings to → AreHeard n from hearings' to' → length hearings ≡ length hearings' → (hearings ≡ hearings') × (to ≡ to')
     same_heard from [] [] to to' are are' same = (refl, are ∙ sym are')
@@ -45,8 +43,7 @@ module _ (one_list : (program : Parts) (height : ℕ) (state : Multiset) (group 
     -- no more players choose than before one of whom no choice is heard
     no_more_heard : (from : Supply) (hearings hearings' : List Hearing) (between to to' : Supply) (events : List Event) (choice : Choice) (word : EndWord) → AreHeard n from hearings between → IsHeard n between events choice to → IsCutOff choice word → AreHeard n from hearings' to' → length hearings' ≤ length hearings
     no_more_heard from hearings [] between to to' events choice word are is cut are' = omega arith
-    no_more_heard from [] (hearing' ∷ hearings') between to to' events choice word are is cut are' =
-        absurd (rw (one_heard from events hearing'.events choice (Place hearing'.place) to are'.0 (rw (← are) is) are'.1).1 at cut)
+    no_more_heard from [] (hearing' ∷ hearings') between to to' events choice word are is cut are' = grind (arith, one_heard)
     no_more_heard from (hearing ∷ hearings) (hearing' ∷ hearings') between to to' events choice word are is cut are' =
         let one = one_heard from hearing.events hearing'.events (Place hearing.place) (Place hearing'.place) are.0 are'.0 are.1 are'.1 in
         omega (arith, no_more_heard are.0 hearings hearings' between to to' events choice word are.2 is cut (rw one.2 are'.2))
@@ -62,9 +59,8 @@ module _ (one_list : (program : Parts) (height : ℕ) (state : Multiset) (group 
         (before.0, one.0, one.1, grind (arith, cut, cut', one.1), one.2)
 
   one_chosen : (offers : List Offer) (hearings : List Hearing) (chosen chosen' : List Offer) → HaveChosen offers hearings chosen → HaveChosen offers hearings chosen' → chosen ≡ chosen'
-  one_chosen offers [] chosen chosen' have have' = grind arith
   one_chosen offers (hearing ∷ hearings) (offer ∷ chosen) (offer' ∷ chosen') have have' = cc (have.0, have'.0, one_chosen offers hearings chosen chosen' have.1 have'.1)
-  one_chosen offers (hearing ∷ hearings) chosen chosen' have have' = grind arith
+  one_chosen offers hearings chosen chosen' have have' = grind arith
 
   -- What is done
   abbrev bare : Deed → Deed
@@ -99,19 +95,16 @@ module _ (one_list : (program : Parts) (height : ℕ) (state : Multiset) (group 
 
   -- where an offer is done, deeds do not stop before it
   goes_on : (at last last' : Position) (deed : Deed) (deeds : List Deed) (later later' : List Offer) (word word' : EndWord) → Does at [] last later word → Does at (deed ∷ deeds) last' later' word' → later ≡ map (λ (it : Deed). it.offer) (deed ∷ deeds) ++ later' → ⊥
-  goes_on at last last' deed deeds later later' word word' does does' same =
-      let (rule, of_rule, stops) = rw (does.0, same) at does.2 in
-      done_or_stops deed at rule word does'.0.0 does'.0.1 (omega (arith, deeds_counted program settings.height deed.after deeds last' does'.0.2, does'.1)) of_rule stops
+  goes_on at last last' deed deeds later later' word word' does does' same = grind (arith, done_or_stops, deeds_counted, does.0, does.2, does'.0.0, does'.0.1, deed.after, does'.0.2, does'.1)
 
   one_way : (at : Position) (deeds deeds' : List Deed) (last last' : Position) (later later' : List Offer) (word word' : EndWord) → Does at deeds last later word → Does at deeds' last' later' word'
       → map (λ (it : Deed). it.offer) deeds ++ later ≡ map (λ (it : Deed). it.offer) deeds' ++ later' → (map bare deeds ≡ map bare deeds') × (last ≡ last') × (later ≡ later')
   one_way at [] [] last last' later later' word word' does does' same = (refl, does.0 ∙ sym does'.0, same)
-  one_way at [] (deed' ∷ deeds') last last' later later' word word' does does' same = absurd (goes_on at last last' deed' deeds' later later' word word' does does' same)
-  one_way at (deed ∷ deeds) [] last last' later later' word word' does does' same = absurd (goes_on at last' last deed deeds later' later word' word does' does (sym same))
   one_way at (deed ∷ deeds) (deed' ∷ deeds') last last' later later' word word' does does' same =
       let first = one_deed deed deed' (does.0.0 ∙ sym does'.0.0) (cc (same)) does.0.1 does'.0.1 in
       let others = one_way deed.after deeds deeds' last last' later later' word word' (does.0.2, does.1, does.2) (rw (ap (λ (it : Deed). it.after) first) does'.0.2, does'.1, does'.2) (cc (same)) in
       (λ i. first i ∷ others.0 i, others.1, others.2)
+  one_way at deeds deeds' last last' later later' word word' does does' same = grind (arith, goes_on)
 
   module _ (at : Position) (from : Supply) where
     -- Where all choose
@@ -148,17 +141,14 @@ module _ (one_list : (program : Parts) (height : ℕ) (state : Multiset) (group 
     end_or_part : (word : EndWord) (end : EndOfRounds) (last : Position) (to : Supply) → EndsInRounds program settings players at from word end last to → (part : TurnOrRound) (parts : List TurnOrRound) (last' : Position) (to' : Supply)
         → AreTurnsAndRounds program settings players at from (part ∷ parts) last' to' → ⊥
     end_or_part word (of_turn asked) last to ends (a_turn turn) parts last' to' done = one.turn_or_end one_list one_step program settings at from turn word asked to done.0 ends.0
-    end_or_part word (of_player offers hearings events choice) last to ends (a_turn turn) parts last' to' done = done.1 ends.0.listed.for_all
-    end_or_part word (of_offer round) last to ends (a_turn turn) parts last' to' done = done.1 ends.0.listed.for_all
     end_or_part word (of_turn asked) last to ends (a_round round here left) parts last' to' done = listed_or_asked round.offers word asked last to done.0.choice.listed ends
     end_or_part word (of_player offers hearings events choice) last to ends (a_round round here left) parts last' to' done = chosen_or_not round left offers hearings events choice word to done.0.choice ends.0 ends.1
     end_or_part word (of_offer stopped) last to ends (a_round round here left) parts last' to' done = cc (one_round stopped round last here to left _ [] word Quiet ends.0 done.0.choice (stops_at stopped word last ends.1) (done_to round here left done.0)).3
+    end_or_part word end last to ends part parts last' to' done = grind arith
 
     one_end : (word word' : EndWord) (end end' : EndOfRounds) (last last' : Position) (to to' : Supply) → EndsInRounds program settings players at from word end last to → EndsInRounds program settings players at from word' end' last' to'
         → SameEnd end end' word word' last last' to to'
-    one_end word word' (of_turn asked) (of_turn asked') last last' to to' ends ends' =
-        let same = one.one_end one_list one_step program settings at from word word' asked asked' to to' ends.0 ends'.0 in
-        record { ends = ap of_turn same.questions; words = same.words; lasts = ends.2 ∙ sym ends'.2; lefts = same.supplies }
+    one_end word word' (of_turn asked) (of_turn asked') last last' to to' ends ends' = grind (arith, one.one_end one_list one_step program settings at from word word' asked asked' to to' ends.0 ends'.0)
     one_end word word' (of_turn asked) (of_player offers' hearings' events' choice') last last' to to' ends ends' = absurd (listed_or_asked offers' word asked last to ends'.0.listed ends)
     one_end word word' (of_turn asked) (of_offer round') last last' to to' ends ends' = absurd (listed_or_asked round'.offers word asked last to ends'.0.listed ends)
     one_end word word' (of_player offers hearings events choice) (of_turn asked') last last' to to' ends ends' = absurd (listed_or_asked offers word' asked' last' to' ends.0.listed ends')
@@ -209,6 +199,4 @@ module _ (one_list : (program : Parts) (height : ℕ) (state : Multiset) (group 
 
   pub one_dialogue : (come rest rest' : List ℕ) (parts parts' : List TurnOrRound) (end end' : EndOfRounds) (word word' : EndWord) (last last' : Position) (events events' : List Event) → DialogueInRounds program settings players come parts end word last events rest → DialogueInRounds program settings players come parts' end' word' last' events' rest'
       → (map unproved_part parts ≡ map unproved_part parts') × (unproved_end end ≡ unproved_end end') × (word ≡ word') × (last ≡ last') × (rest ≡ rest')
-  one_dialogue come rest rest' parts parts' end end' word word' last last' events events' said said' =
-      let same = one_run_of (start_of program) (whole_supply come) parts parts' end end' word word' last last' said.left said'.left said.run said'.run in
-      (same.0, same.1.ends, same.1.words, same.1.lasts, said.rest_is ∙ ap (λ supply. supply.come) same.1.lefts ∙ sym said'.rest_is)
+  one_dialogue come rest rest' parts parts' end end' word word' last last' events events' said said' = grind (arith, one_run_of (start_of program) (whole_supply come) parts parts' end end' word word' last last' said.left said'.left said.run said'.run)

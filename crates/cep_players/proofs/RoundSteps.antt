@@ -3,7 +3,7 @@ use Rattle.std.proofs.Common.{◌≡◌, ℕ, ◌-◌, ◌%◌, Bool, List, [], 
 use Rattle.std.proofs.lemmas.List.{map-append}
 use Rattle.cep_players.proofs.Words.{slice_get, AllByRecursion, flat_map, flat_map-append, all_at, all_of, contains_first, contains_left, contains_right, holds_at, map_last, ProofTree, IsDerivable, quiet_here, outs, AtomTree, Multiset, Rule, Parts, Offer, IsState, Applies, IsInGroup, IsOffer}
 use Rattle.cep_players.proofs.Words.{own_group, IsQuiet, Step, IsTypedRule, IsDividedRule, IsGroupedRule, IsProgram, Position, Deed, AreDeeds, EndWord, lines_of_deed, Quiet, AreAdmitted, admitted, IsRound, AreOffersDone, Settings, Supply, RoundsAreLawful, Hearing, HaveChosen, Round, IsRoundDone}
-use Rattle.cep_players.proofs.Words.{TurnOrRound, a_turn, a_round, AreTurnsAndRounds, AreTogether, all_done, EndOfRounds, of_turn, of_player, of_offer, done_before, EndsInRounds, RunsInRounds}
+use Rattle.cep_players.proofs.Words.{TurnOrRound, a_turn, a_round, AreTurnsAndRounds, AreTogether, all_done, EndOfRounds, done_before, EndsInRounds, RunsInRounds}
 use Rattle.cep_rule.specs.Steps.{AreProofs, stage_after}
 use Rattle.cep_round.proofs.Counts.{each_admitted}
 use Rattle.cep_base.specs.declared.console.Event.TheVariants.{Out}
@@ -11,9 +11,8 @@ use Rattle.std.specs.FinMap as finite
 
 -- offers that were chosen are offers of the list
 pub chosen_are : (P : Offer → Type 0) (offers : List Offer) → ((k : ℕ) (offer : Offer) → slice_get offers k ≡ Some offer → P offer) → (hearings : List Hearing) (chosen : List Offer) → HaveChosen offers hearings chosen → AllByRecursion P chosen
-chosen_are P offers each [] [] have = tt
 chosen_are P offers each (hearing ∷ hearings) (offer ∷ chosen) have = (each (hearing.place - 1) offer have.0, chosen_are P offers each hearings chosen have.1)
-chosen_are P offers each hearings chosen have = absurd have
+chosen_are P offers each hearings chosen have = grind arith
 
 -- a rule of a stage's own group leaves no stage
 pub stays_in_stage : (rule : Rule) (stage : ℕ) → rule.group ≡ own_group stage → IsSome rule.next ↔ (rule.group % 2 ≡ 1) → stage ≡ stage_after rule stage
@@ -37,9 +36,7 @@ module _ (program : Parts) (settings : Settings) (players : ℕ) where
   run_deeds at from parts end word last to run = then_deeds at (all_done parts) run.here (done_before end) last (parts_deeds at from parts run.here run.between run.done) (end_deeds run.here run.between word end last to run.ends)
 
   end_quiet : (at : Position) (from : Supply) (end : EndOfRounds) (last : Position) (to : Supply) → EndsInRounds program settings players at from Quiet end last to → IsQuiet program settings.height last.spot.state last.spot.stage
-  end_quiet at from (of_turn asked) last to ends = rw ends.2 (quiet_here program settings at from refl ends.0)
-  end_quiet at from (of_player offers hearings events choice) last to ends = absurd (grind (arith, ends.1))
-  end_quiet at from (of_offer round) last to ends = absurd ends.1.stops
+  end_quiet at from end last to ends = grind (arith, quiet_here)
 
   pub run_quiet : (at : Position) (from : Supply) (parts : List TurnOrRound) (end : EndOfRounds) (word : EndWord) (last : Position) (to : Supply) → RunsInRounds program settings players at from parts end word last to → word ≡ Quiet → IsQuiet program settings.height last.spot.state last.spot.stage
   run_quiet at from parts end word last to run is = end_quiet run.here run.between end last to (rw is at run.ends)
@@ -53,9 +50,8 @@ lines_more program deeds deed = rw (flat_map-append (lines_of_deed program) deed
 
 module _ (laws : RoundsAreLawful) (program : Parts) (height : ℕ) where
   derivable : (proofs : List ProofTree) (atoms : List AtomTree) → AreProofs program height proofs atoms → AllByRecursion (IsDerivable program height) atoms
-  derivable [] [] are = tt
   derivable (proof ∷ proofs) (a ∷ atoms) are = (record { proof = proof; proves = are.0; low = are.1 }, derivable proofs atoms are.2)
-  derivable proofs atoms are = absurd are
+  derivable proofs atoms are = grind arith
 
   -- deeds are offers that are done one after another
   pub deeds_done : (at : Position) (deeds : List Deed) (last : Position) → AreDeeds program height at deeds last → AreOffersDone program height at.spot.state (map (λ deed. deed.offer) deeds) last.spot.state
@@ -89,8 +85,7 @@ module _ (laws : RoundsAreLawful) (program : Parts) (height : ℕ) where
         let step = done.1.step in
         let own : deed.rule.group ≡ own_group stage = cc (grouped.0.numbered, step.numbered, grouped.0.grouped) in
         let is_grouped = holds_at (IsGroupedRule _) program.rules deed.offer.rule deed.rule kept.grouped step.numbered in
-        let next : deed.after.spot.stage ≡ stage = step.steps.stage ∙ rw (done.0, here) (sym (stays_in_stage deed.rule stage own is_grouped.leaves)) in
-        deeds_stay stage deed.after deeds last next grouped.1 done.2
+        deeds_stay stage deed.after deeds last (step.steps.stage ∙ rw (done.0, here) (sym (stays_in_stage deed.rule stage own is_grouped.leaves))) grouped.1 done.2
 
     module _ (state : Multiset) (group : ℕ) (chosen : List Offer) (flags : List Bool) (are : AllByRecursion (IsOffer program height state group) chosen) (flagged : AreAdmitted program state finite.empty chosen flags) where
       admitted_is : (offer : Offer) → Contains (admitted chosen flags) offer → IsOffer program height state group offer
@@ -98,9 +93,7 @@ module _ (laws : RoundsAreLawful) (program : Parts) (height : ℕ) where
 
       -- the next admitted offer is one where it comes
       pub next_offer : (prefix later : List Offer) (offer : Offer) (found : Multiset) → admitted chosen flags ≡ prefix ++ offer ∷ later → AreOffersDone program height state prefix found → IsOffer program height found group offer
-      next_offer prefix later offer found order done =
-          let was = admitted_is offer (rw order (contains_right prefix (offer ∷ later) offer (contains_first offer later))) in
-          record { in_group = was.in_group; applies = laws.heights program state chosen flags kept flagged prefix later offer height height found order done was.applies }
+      next_offer prefix later offer found order done = grind (arith, admitted_is offer (rw order (contains_right prefix (offer ∷ later) offer (contains_first offer later))))
 
     -- and so it is after deeds, which stay in the stage
     pub next_is_offer : (at : Position) (chosen : List Offer) (flags : List Bool) → AreAdmitted program at.spot.state finite.empty chosen flags → AllByRecursion (IsOffer program height at.spot.state (own_group at.spot.stage)) chosen

@@ -4,11 +4,10 @@ use Rattle.std.proofs.lemmas.Bool.{cases_lt}
 use Rattle.std.proofs.lemmas.List.{length-map}
 use Rattle.std.proofs.lemmas.Slice.Zip.{AllZip-long}
 use Rattle.cep_players.proofs.Words.{slice_get, AllByRecursion, flat_map, flat_map-append, contains_at, all_from_places, holds_at, offer_lines, left_by, deeds_counted, generator_behind, Event, outs, AtomTree, Multiset, count_of, IsContained, Parts, Rule, Offer, IsState, IsOffer, own_group, IsAsked}
-use Rattle.cep_players.proofs.Words.{IsProgram, Position, Deed, AreDeeds, start_of, Limit, Passes, needs, used_with, AreAdmitted, admitted, EndWord, Turns, end_lines, header, lines_of_deed, Settings, Spent, Supply, whole_supply, Question, Turn, IsQuestion, IsTurn, AreTurns, EndsAt, supply_with}
+use Rattle.cep_players.proofs.Words.{IsProgram, Position, Deed, AreDeeds, start_of, Limit, Passes, used_with, AreAdmitted, admitted, EndWord, Turns, end_lines, header, lines_of_deed, Settings, Spent, Supply, whole_supply, Question, Turn, IsQuestion, IsTurn, AreTurns, EndsAt, supply_with}
 use Rattle.cep_players.proofs.Words.{limit_word, BeginsSome, PlayersLaws, IsForAll, Round, IsListedHere, IsChosenHere, TurnOrRound, a_turn, a_round, AreTurnsAndRounds, EndOfRounds, of_turn, of_player, of_offer, CannotBeDone, EndsInRounds, hearing_events, blocked_lines, turn_question_events}
 use Rattle.cep_players.proofs.Words.{round_question_events, round_events, part_events, last_part_events, DialogueInRounds, ChooseSome, IsRunInRounds, front_of_front}
 use Rattle.cep_term.specs.BagLaws.{BagLaws}
-use Rattle.cep_round.proofs.Counts.{join_count}
 use Rattle.cep_players.proofs.AllPlayers.{none_chose, choose_on}
 use Rattle.cep_players.proofs.RoundSteps.{chosen_are, deeds_states, then_deeds, next_is_offer, order_more, lines_more}
 use Rattle.cep_run.proofs.DecisionThere.{interactive_or_not}
@@ -45,13 +44,8 @@ flags_there laws program state used (offer ∷ offers) = elim (contained_or_not 
 
 -- of offers that apply one at least is admitted, as the first one is
 pub some_admitted : BagLaws → (program : Parts) (height : ℕ) (state : Multiset) (group : ℕ) (chosen : List Offer) (flags : List Bool) → AllByRecursion (IsOffer program height state group) chosen → AreAdmitted program state finite.empty chosen flags → 0 < length chosen → 0 < length (admitted chosen flags)
-some_admitted laws program height state group [] flags are flagged many = absurd (omega (arith, many))
-some_admitted laws program height state group (offer ∷ chosen) [] are flagged many = absurd flagged
-some_admitted laws program height state group (offer ∷ chosen) (true ∷ flags) are flagged many = omega arith
-some_admitted laws program height state group (offer ∷ chosen) (false ∷ flags) are flagged many =
-    let applies = are.0.applies in
-    let needed : IsContained (needs program offer) state = rw applies.numbered applies.contained in
-    absurd (flagged.0 (λ a. grind (arith, laws.empty a, join_count laws program finite.empty (needs program offer) a, needed a)))
+some_admitted laws program height state group (offer ∷ chosen) (false ∷ flags) are flagged many = grind (arith, are.0.applies)
+some_admitted laws program height state group chosen flags are flagged many = grind arith
 
 module _ (program : Parts) (settings : Settings) (players : ℕ) where
   -- these events begin a run in rounds from here
@@ -155,8 +149,7 @@ module _ (program : Parts) (settings : Settings) (players : ℕ) where
 
       -- the offers were written
       pub listed_on : (come : List ℕ) → Begins at (supply_with come spent) (outs (offer_lines program 1 offers))
-      listed_on come = rw (append-nil (outs (offer_lines program 1 offers))) at
-          (hearing_on come [] (choose_on offers spent laws.heard laws.within players players 0 (omega arith) [] spent come come [] (none_chose offers spent come [] come (refl, refl))))
+      listed_on come = rw (append-nil (outs (offer_lines program 1 offers))) at (hearing_on come [] (choose_on offers spent laws.heard laws.within players players 0 (omega arith) [] spent come come [] (none_chose offers spent come [] come (refl, refl))))
 
     -- A turn, and a question
     pub turn_on : (at : Position) (from : Supply) → IsState program.signature at.spot.state → (turn : Turn) → IsTurn program settings at from turn → (IsForAll program settings.height at → ⊥) → Goes at → Begins at from (part_events program (a_turn turn))
@@ -193,9 +186,7 @@ module _ (program : Parts) (settings : Settings) (players : ℕ) where
     by_turns at from is_state next (turn ∷ turns) last between done word asked to ends = from_question at from is_state turn.question turn.left done.0.asks next
 
     one_step : (at : Position) (from : Supply) → IsState program.signature at.spot.state → at.turns ≤ settings.limit → Goes at → Begins at from []
-    one_step at from is_state few next =
-        let (turns, ending, to, run) = laws.runs program settings at from kept is_state few in
-        by_turns at from is_state next turns run.last run.between run.done ending.word ending.question to run.ends
+    one_step at from is_state few next = let (turns, ending, to, run) = laws.runs program settings at from kept is_state few in by_turns at from is_state next turns run.last run.between run.done ending.word ending.question to run.ends
 
     run_within : (most : ℕ) (at : Position) (from : Supply) → IsState program.signature at.spot.state → at.turns ≤ settings.limit → settings.limit ≤ at.turns + most → Begins at from []
     run_within zero at from is_state few fuel = one_step at from is_state few (λ here later more within state. absurd (omega (arith, more, within, fuel)))

@@ -25,10 +25,7 @@ module _ (program : Parts) where
   deeds_then (deed ∷ done) more later then = ([], flat_map (lines_of_deed program) done ++ later, no_remarks [] refl, deeds_then done more later then, append_assoc (lines_of_deed program deed) (flat_map (lines_of_deed program) done) later)
 
   part_then : (asked : List Event) (done more : List Deed) (later : List Event) → AreRemarks (written_bytes asked) → TellThen program more (written_bytes later) → TellThen program (done ++ more) (written_bytes ((asked ++ outs (flat_map (lines_of_deed program) done)) ++ later))
-  part_then asked done more later passed then =
-      let lines = flat_map (lines_of_deed program) done in
-      rw (append_assoc asked (outs lines) later, written_both asked (outs lines ++ later), written_both (outs lines) later, written_outs lines)
-      (remarks_then (written_bytes asked) (done ++ more) (lines ++ written_bytes later) passed (deeds_then done more (written_bytes later) then))
+  part_then asked done more later passed then = grind (arith, flat_map, lines_of_deed, append_assoc, outs, written_both, written_outs, remarks_then, deeds_then)
 
   -- the remarks at the end stand apart
   apart : (deeds : List Deed) (bytes : List ℕ) → TellThen program deeds bytes → (told : List ℕ) × (remarks : List ℕ) × TellDeeds program deeds told × AreRemarks remarks × (bytes ≡ told ++ remarks)
