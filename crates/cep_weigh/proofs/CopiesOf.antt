@@ -35,8 +35,7 @@ none_counted test (e ∷ es) none =
     let all = sum_by-cons (λ (d : AtomTree × ℕ). d.1) e es in
     let some = sum_by-cons (λ (d : AtomTree × ℕ). cond (test d.0) d.1 0) e es in
     let rest = none_counted test es (omega arith) in
-    let here : e.1 ≡ 0 = omega arith in
-    let nothing : cond (test e.0) e.1 0 ≡ 0 = ap (λ n. cond (test e.0) n 0) here ∙ worth_nothing test e.0 in
+    let nothing : cond (test e.0) e.1 0 ≡ 0 = ap (λ n. cond (test e.0) n 0) (omega arith) ∙ worth_nothing test e.0 in
     omega arith
 
 copies_empty : BagLaws → (pred : ℕ) → copies_of_pred finite.empty pred ≡ 0

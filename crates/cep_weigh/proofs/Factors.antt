@@ -1,14 +1,13 @@
 -- Sums of factors, one after another, and what bounds the copies of a predicate.
-use Rattle.std.proofs.Common.{◌≡◌, ⊎_elim, Bool, true, false, cond, not, ◌&&◌, ◌==◌, ℕ, ◌+◌, ◌*◌, ◌/◌, ◌<◌, ◌≤◌, List, [], ◌∷◌, map, Contains, refl, sym, ap, subst, ◌∙◌, arith, mul_comm, le-div_iff_mul-le, ℤ, pos, ◌+ℤ◌, ◌*ℤ◌, ◌≤ℤ◌, ◌<ℤ◌}
+use Rattle.std.proofs.Common.{◌≡◌, ⊎_elim, Bool, true, false, cond, not, ◌&&◌, ◌==◌, ℕ, ◌+◌, ◌*◌, ◌/◌, ◌<◌, ◌≤◌, List, [], ◌∷◌, map, Contains, refl, sym, ap, subst, ◌∙◌, arith, le-div_iff_mul-le, ℤ, pos, ◌+ℤ◌, ◌*ℤ◌, ◌≤ℤ◌, ◌<ℤ◌}
 use Rattle.std.specs.Prelude.{filter, count_by}
 use Rattle.std.proofs.lemmas.Int.{ints}
 use Rattle.std.proofs.lemmas.List.Sums.{sum_by-cons}
-use Rattle.std.proofs.Math.IntN.{pos-*ℤ-pos}
 use Rattle.cep_base.proofs.Elements.{all_at, contains_cases}
 use Rattle.cep_term.specs.Multiset.{Multiset}
 use Rattle.cep_rule.specs.Patterns.{PremiseTree}
 use Rattle.cep_weigh.specs.declared.weight.Claim.{Claim}
-use Rattle.cep_weigh.specs.declared.weight.Claim.TheVariants.{Keep, Most, Fall}
+use Rattle.cep_weigh.specs.declared.weight.Claim.TheVariants.{Most}
 use Rattle.cep_weigh.specs.declared.weight.Part.{Part}
 use Rattle.cep_weigh.specs.Weights.{weighed, copies_of_pred, weight_of, Wants, ArePositive, factors_of}
 use Rattle.cep_weigh.specs.WeightRuns.{GoesAsClaimed}
@@ -46,9 +45,7 @@ left_factors parts premises =
 
 -- whatever is claimed, no weight of a run is greater
 falls_too : (claim : Claim) (x y : ℤ) → Wants claim x y → Wants Most x y
-falls_too Keep x y wants = omega (arith, ints)
-falls_too Most x y wants = wants
-falls_too Fall x y wants = omega (arith, ints)
+falls_too claim x y wants = grind (arith, ints)
 
 goes_too : (claim : Claim) (parts : List Part) (state : Multiset) (run : List Multiset) → GoesAsClaimed claim parts state run → GoesAsClaimed Most parts state run
 goes_too claim parts state [] goes = tt

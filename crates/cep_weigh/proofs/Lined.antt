@@ -1,5 +1,5 @@
 -- The lines that were read so far, and what is said of all of them.
-use Rattle.std.proofs.Common.{◌≡◌, ◌⊎◌, inl, inr, ℕ, ◌+◌, ◌<◌, ◌≤◌, List, [], ◌∷◌, ◌++◌, length, refl, sym, ap, ◌∙◌, subst, arith, length-append, append_assoc, Option, Some, None, IsSomeAnd, slice_get, Bool, true, false, Result, Ok, Err}
+use Rattle.std.proofs.Common.{◌≡◌, ◌⊎◌, inl, inr, ℕ, ◌+◌, ◌<◌, ◌≤◌, List, [], ◌∷◌, ◌++◌, length, refl, sym, ap, ◌∙◌, subst, arith, length-append, append_assoc, slice_get, Bool, false, Result, Ok, Err}
 use Rattle.std.specs.Prelude.{IfOk, IfErr, IsTrue, ◌↔◌}
 use Rattle.cep_base.specs.declared.kind.PredKind.TheVariants.{Linear}
 use Rattle.std.specs.List.{AllByRecursion}
@@ -13,6 +13,7 @@ use Rattle.cep_weigh.specs.declared.fault.KeepFault.{KeepFault}
 use Rattle.cep_weigh.specs.declared.written.NamedPart.{NamedPart}
 use Rattle.cep_weigh.specs.Weights.{IsFactor, AreOfLinear, IsWeightOf}
 use Rattle.cep_weigh.specs.Claims.{claim_lines, SaysNothing, IsNamedPart, AreResolved, IsClaimOf, IsClaimFault, AddsLine, AddClaims, HasClaims, HasFault}
+use Rattle.cep_base.proofs.Options.{some_weaker as some_as}
 
 -- Of all lines these are left; those before add these claims.
 pub record LinesSoFar (signature : Signature) (lines left : List (List ℕ)) (number : ℕ) (claims : List Weight) : Type 0 where
@@ -26,9 +27,7 @@ none_done signature lines left same = record { done = []; cut = sym same; add = 
 
 add_more : (signature : Signature) (n : ℕ) (lines : List (List ℕ)) (line : List ℕ) (old mid new : List Weight) → AddClaims signature n lines old mid → AddsLine signature (n + length lines) line mid new → AddClaims signature n (lines ++ line ∷ []) old new
 add_more signature n [] line old mid new add adds = grind arith
-add_more signature n (first ∷ lines) line old mid new add adds =
-    let at : n + length (first ∷ lines) ≡ n + 1 + length lines = omega arith in
-    (add.0, add.1, add_more signature (n + 1) lines line add.0 mid new add.2 (subst (λ (m : ℕ). AddsLine signature m line mid new) at adds))
+add_more signature n (first ∷ lines) line old mid new add adds = (add.0, add.1, add_more signature (n + 1) lines line add.0 mid new add.2 (subst (λ (m : ℕ). AddsLine signature m line mid new) (omega arith) adds))
 
 pub one_done : (signature : Signature) (lines left rest : List (List ℕ)) (line : List ℕ) (number : ℕ) (claims after : List Weight) → LinesSoFar signature lines left number claims → left ≡ line ∷ rest → AddsLine signature (number + 1) line claims after
     → LinesSoFar signature lines rest (number + 1) after
@@ -50,22 +49,13 @@ pub fault_said : (program other : Parts) (bytes : List ℕ) (left rest : List (L
     → ¬ SaysNothing line → IsClaimFault other.signature claims line (number + 1) fault → HasFault program bytes fault
 fault_said program other bytes left rest line number claims fault same so_far is says why = grind (arith, so_far.done, so_far.cut, so_far.add, other.signature, so_far.counted)
 
--- what is read is of the program
-some_as : {X : Type 0} (o : Option X) (P Q : X → Type 0) → ((x : X) → P x → Q x) → IsSomeAnd o P → IsSomeAnd o Q
-some_as None P Q f h = absurd h
-some_as (Some x) P Q f h = f x h
-
 linear_parts : (signature : Signature) (parts : List NamedPart) (sum : List Part) → AreResolved signature parts sum → AreOfLinear signature sum
-linear_parts signature [] [] are = tt
-linear_parts signature [] (part ∷ sum) are = absurd are
-linear_parts signature (named ∷ parts) [] are = absurd are
 linear_parts signature (named ∷ parts) (part ∷ sum) are = (some_as (slice_get signature.preds part.pred) (λ d. (d.name ≡ named.name) × (d.kind ≡ Linear)) (λ d. d.kind ≡ Linear) (λ d h. h.1) are.1, linear_parts signature parts sum are.2)
+linear_parts signature parts sum are = grind arith
 
 factor_parts : (signature : Signature) (parts : List NamedPart) (sum : List Part) → AreResolved signature parts sum → AllByRecursion IsNamedPart parts → AllByRecursion (λ part. IsFactor part.factor) sum
-factor_parts signature [] [] are each = tt
-factor_parts signature [] (part ∷ sum) are each = absurd are
-factor_parts signature (named ∷ parts) [] are each = absurd are
 factor_parts signature (named ∷ parts) (part ∷ sum) are each = (subst IsFactor (sym are.0) each.0.factor, factor_parts signature parts sum are.2 each.1)
+factor_parts signature parts sum are each = grind arith
 
 weight_is : (program : Parts) (earlier : List Weight) (line : List ℕ) (number : ℕ) (weight : Weight) → IsClaimOf program.signature earlier line number weight → IsWeightOf program weight
 weight_is program earlier line number weight is = grind (arith, linear_parts, factor_parts, program.signature, is.written.parts, weight.sum, is.numbered, is.apart, is.line_is.writable.parts, is.signs)
@@ -85,5 +75,4 @@ pub told_err : {T E : Type 0} (r : Result T E) (e : E) (P : E → Type 0) → r 
 told_err {T = T} r e P is h = let k : IfErr {T = T} (Err e) P = subst (λ s. IfErr s P) is h in k
 
 pub not_twice : (b : Bool) (P Q : Type 0) → (IsTrue b ↔ P) → b ≡ false → Q → (P ⊎ ¬ Q) → ⊥
-not_twice b P Q tells is q (inl p) = let yes : b ≡ true = tells.1 p in absurd (cc (yes, is))
-not_twice b P Q tells is q (inr never) = never q
+not_twice b P Q tells is q given = grind arith

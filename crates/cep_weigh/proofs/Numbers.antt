@@ -1,5 +1,5 @@
 -- Factors as numbers: they are small, and each is spelled in one way.
-use Rattle.std.proofs.Common.{◌≡◌, ◌<◌, ◌^◌, arith, ℤ, pos, negsuc}
+use Rattle.std.proofs.Common.{◌≡◌, ◌<◌, ◌^◌, arith, ℤ}
 use Rattle.std.specs.Int.RustNames.{FitsSigned}
 use Rattle.std.specs.Fmt.{signed_decimal}
 use Rattle.std.proofs.lemmas.Fmt.{signed_decimal_injective}
@@ -9,8 +9,7 @@ use mir.Syntax.{w64}
 use Rattle.cep_weigh.specs.Weights.{IsFactor}
 
 pub small : (z : ℤ) → IsFactor z → mag z < 2 ^ 63
-small (pos n) is = let high = is.high in omega (arith, ints)
-small (negsuc n) is = let low = is.low in omega (arith, ints)
+small z is = grind (arith, ints)
 
 pub fits : (z : ℤ) → IsFactor z → FitsSigned w64 z
 fits z is = record { sfits = small z is }

@@ -1,9 +1,8 @@
 -- A file of claims says one list of claims or has one fault.
-use Rattle.std.proofs.Common.{◌≡◌, ◌≢◌, ⊎_elim, inl, inr, ℕ, zero, suc, ◌+◌, Bool, true, false, List, [], ◌∷◌, ◌++◌, length, map, refl, sym, ap, ◌∙◌, subst, arith, Contains, slice_get, IsSomeAnd}
+use Rattle.std.proofs.Common.{◌≡◌, ◌≢◌, ⊎_elim, inl, inr, ℕ, suc, ◌+◌, Bool, true, false, List, [], ◌∷◌, ◌++◌, length, map, refl, sym, ap, ◌∙◌, subst, arith, Contains, slice_get, IsSomeAnd}
 use Rattle.std.specs.List.{AllByRecursion}
-use Rattle.std.specs.Fmt.{signed_decimal}
 use Rattle.cep_base.specs.declared.kind.PredKind.TheVariants.{Linear}
-use Rattle.cep_base.proofs.Elements.{contains_none, contains_cases}
+use Rattle.cep_base.proofs.Elements.{contains_cases}
 use Rattle.cep_rule.specs.declared.signature.PredDecl.{PredDecl}
 use Rattle.cep_rule.specs.declared.signature.Signature.{Signature}
 use Rattle.cep_rule.specs.declared.parts.Parts.{Parts}
@@ -16,7 +15,6 @@ use Rattle.cep_weigh.specs.declared.fault.KeepFault.{KeepFault}
 use Rattle.cep_weigh.specs.declared.fault.KeepFault.TheVariants.{Keep, KeepName, KeepTwice, KeepSign}
 use Rattle.cep_weigh.specs.declared.written.NamedPart.{NamedPart}
 use Rattle.cep_weigh.specs.declared.written.Written.{Written}
-use Rattle.cep_weigh.specs.Weights.{HaveOwnPredicates, AreNotNegative}
 use Rattle.cep_weigh.specs.Claims.{claim_lines, SaysNothing, claim_word, parts_words, IsNamedPart, IsWrittenAs, IsLinearNamed, AreResolved, SomeIsUnknown, IsNamedBefore, IsClaimOf, IsResolvedLine, SaysTwice, IsClaimFault, AddsLine, AddClaims, HasClaims, HasFault}
 use Rattle.cep_weigh.proofs.Numbers.{one_factor}
 
@@ -31,65 +29,35 @@ first_byte claim.Most = 109
 first_byte claim.Fall = 102
 
 begins : (c : Claim) → head_of (claim_word c) ≡ first_byte c
-begins claim.Keep = refl
-begins claim.Most = refl
-begins claim.Fall = refl
+begins c = grind arith
 
 one_word : (one other : Claim) → claim_word one ≡ claim_word other → one ≡ other
 one_word one other e = grind (arith, begins)
 
 one_sum : (first : Bool) (parts others : List NamedPart) → AllByRecursion IsNamedPart parts → AllByRecursion IsNamedPart others → parts_words first parts ≡ parts_words first others → parts ≡ others
 one_sum first [] [] each each' e = refl
-one_sum first [] (other ∷ others) each each' e = absurd cc
-one_sum first (part ∷ parts) [] each each' e = absurd cc
-one_sum first (part ∷ parts) (other ∷ others) each each' e =
-    let spelled : signed_decimal part.factor ≡ signed_decimal other.factor = cc in
-    let name : part.name ≡ other.name = cc in
-    let factor : part.factor ≡ other.factor = one_factor part.factor other.factor each.0.factor each'.0.factor spelled in
-    let same : part ≡ other = λ i. record { factor = factor i; name = name i } in
-    let behind : parts_words false parts ≡ parts_words false others = cc in
-    let rest : parts ≡ others = one_sum false parts others each.1 each'.1 behind in
-    λ i. same i ∷ rest i
+one_sum first (part ∷ parts) (other ∷ others) each each' e = grind (arith, one_factor part.factor other.factor each.0.factor each'.0.factor cc, one_sum false parts others each.1 each'.1 cc)
+one_sum first parts others each each' e = absurd cc
 
 one_written : (line : List ℕ) (one other : Written) → IsWrittenAs line one → IsWrittenAs line other → one ≡ other
-one_written line one other is is' =
-    let e = sym is.words ∙ is'.words in
-    let word : claim_word one.claim ≡ claim_word other.claim = cc in
-    let name : one.name ≡ other.name = cc in
-    let words : parts_words true one.parts ≡ parts_words true other.parts = cc in
-    let claim = one_word one.claim other.claim word in
-    let parts = one_sum true one.parts other.parts is.writable.parts is'.writable.parts words in
-    λ i. record { claim = claim i; name = name i; parts = parts i }
+one_written line one other is is' = grind (arith, sym is.words ∙ is'.words, one_word one.claim other.claim cc, one_sum true one.parts other.parts is.writable.parts is'.writable.parts cc)
 
 -- a name is that of one predicate
 abbrev Named : List PredDecl → ℕ → List ℕ → Type 0
 Named preds pred name = IsSomeAnd (slice_get preds pred) (λ decl. (decl.name ≡ name) × (decl.kind ≡ Linear))
 
 among : (preds : List PredDecl) (pred : ℕ) (name other : List ℕ) → AllByRecursion (λ next. other ≢ next) (map (λ decl. decl.name) preds) → Named preds pred name → other ≡ name → ⊥
-among [] pred name other apart is e = absurd is
-among (decl ∷ preds) zero name other apart is e = apart.0 (e ∙ sym is.0)
 among (decl ∷ preds) (suc pred) name other apart is e = among preds pred name other apart.1 is e
+among preds pred name other apart is e = grind arith
 
 one_pred : (preds : List PredDecl) (one other : ℕ) (name : List ℕ) → AllDiffer (map (λ decl. decl.name) preds) → Named preds one name → Named preds other name → one ≡ other
-one_pred [] one other name differ is is' = absurd is
-one_pred (decl ∷ preds) zero zero name differ is is' = refl
-one_pred (decl ∷ preds) zero (suc other) name differ is is' = absurd (among preds other name decl.name differ.0 is' is.0)
-one_pred (decl ∷ preds) (suc one) zero name differ is is' = absurd (among preds one name decl.name differ.0 is is'.0)
 one_pred (decl ∷ preds) (suc one) (suc other) name differ is is' = ap suc (one_pred preds one other name differ.1 is is')
+one_pred preds one other name differ is is' = grind (arith, among)
 
 module _ (signature : Signature) (differ : AllDiffer (map (λ decl. decl.name) signature.preds)) where
   one_numbering : (parts : List NamedPart) (one other : List Part) → AreResolved signature parts one → AreResolved signature parts other → one ≡ other
-  one_numbering [] [] [] are are' = refl
-  one_numbering [] [] (part ∷ other) are are' = absurd are'
-  one_numbering [] (part ∷ one) other are are' = absurd are
-  one_numbering (named ∷ parts) [] other are are' = absurd are
-  one_numbering (named ∷ parts) (part ∷ one) [] are are' = absurd are'
-  one_numbering (named ∷ parts) (part ∷ one) (part' ∷ other) are are' =
-      let pred : part.pred ≡ part'.pred = one_pred signature.preds part.pred part'.pred named.name differ are.1 are'.1 in
-      let factor : part.factor ≡ part'.factor = are.0 ∙ sym are'.0 in
-      let same : part ≡ part' = λ i. record { pred = pred i; factor = factor i } in
-      let rest : one ≡ other = one_numbering parts one other are.2 are'.2 in
-      λ i. same i ∷ rest i
+  one_numbering (named ∷ parts) (part ∷ one) (part' ∷ other) are are' = grind (arith, one_pred signature.preds part.pred part'.pred named.name differ are.1 are'.1, are.0 ∙ sym are'.0, one_numbering parts one other are.2 are'.2)
+  one_numbering parts one other are are' = grind arith
 
   sum_of_line : (line : List ℕ) (one other : Written) (sum sum' : List Part) → IsWrittenAs line one → IsWrittenAs line other → AreResolved signature one.parts sum → AreResolved signature other.parts sum' → sum ≡ sum'
   sum_of_line line one other sum sum' is is' are are' = grind (arith, one_numbering, one_written, other.parts)
@@ -100,9 +68,8 @@ module _ (signature : Signature) (differ : AllDiffer (map (λ decl. decl.name) s
       let same = one_written line is.written is'.written is.line_is is'.line_is in
       let lines : one.line ≡ other.line = is.number_is ∙ sym is'.number_is in
       let claims : one.claim ≡ other.claim = is.claim_is ∙ ap (λ (w : Written). w.claim) same ∙ sym is'.claim_is in
-      let names : one.name ≡ other.name = is.name_is ∙ ap (λ (w : Written). w.name) same ∙ sym is'.name_is in
       let sums : one.sum ≡ other.sum = sum_of_line line is.written is'.written one.sum other.sum is.line_is is'.line_is is.numbered is'.numbered in
-      λ i. record { line = lines i; claim = claims i; name = names i; sum = sums i }
+      λ i. record { line = lines i; claim = claims i; name = (is.name_is ∙ ap (λ (w : Written). w.name) same ∙ sym is'.name_is) i; sum = sums i }
 
   one_line : (number : ℕ) (line : List ℕ) (earlier one other : List Weight) → AddsLine signature number line earlier one → AddsLine signature number line earlier other → one ≡ other
   one_line number line earlier one other (inl a) (inl b) = a.1 ∙ sym b.1
@@ -112,27 +79,22 @@ module _ (signature : Signature) (differ : AllDiffer (map (λ decl. decl.name) s
 
   one_adding : (number : ℕ) (lines : List (List ℕ)) (earlier one other : List Weight) → AddClaims signature number lines earlier one → AddClaims signature number lines earlier other → one ≡ other
   one_adding number [] earlier one other a b = a ∙ sym b
-  one_adding number (line ∷ lines) earlier one other a b =
-      let same = one_line number line earlier a.0 b.0 a.1 b.1 in
-      one_adding (number + 1) lines b.0 one other (subst (λ after. AddClaims signature (number + 1) lines after one) same a.2) b.2
+  one_adding number (line ∷ lines) earlier one other a b = one_adding (number + 1) lines b.0 one other (subst (λ after. AddClaims signature (number + 1) lines after one) (one_line number line earlier a.0 b.0 a.1 b.1) a.2) b.2
 
   -- a line has one fault, and then it says no claim
   known_at : (parts : List NamedPart) (sum : List Part) (named : NamedPart) → AreResolved signature parts sum → Contains parts named → (pred : ℕ) × IsLinearNamed signature pred named.name
-  known_at [] sum named are there = absurd (contains_none named there)
-  known_at (first ∷ parts) [] named are there = absurd are
   known_at (first ∷ parts) (part ∷ sum) named are there =
       ⊎_elim (λ (same : first ≡ named). (part.pred, subst (λ (p : NamedPart). IsLinearNamed signature part.pred p.name) same are.1))
       (λ later. known_at parts sum named are.2 later) (contains_cases first parts named there)
+  known_at parts sum named are there = grind arith
 
   none_unknown : (line : List ℕ) (one other : Written) (sum : List Part) → IsWrittenAs line one → IsWrittenAs line other → AreResolved signature other.parts sum → ¬ SomeIsUnknown signature one.parts
   none_unknown line one other sum is is' are unknown =
-      let here = subst (λ (w : Written). Contains w.parts unknown.0) (one_written line one other is is') unknown.1 in
-      let known = known_at other.parts sum unknown.0 are here in
+      let known = known_at other.parts sum unknown.0 are (subst (λ (w : Written). Contains w.parts unknown.0) (one_written line one other is is') unknown.1) in
       unknown.2 known.0 known.1
 
   twice_too : (earlier : List Weight) (line : List ℕ) (one other : IsResolvedLine signature line) → SaysTwice earlier one → SaysTwice earlier other
-  twice_too earlier line one other (inl named) = inl (subst (λ (w : Written). IsNamedBefore earlier w.name) (one_written line one.written other.written one.line_is other.line_is) named)
-  twice_too earlier line one other (inr never) = grind (arith, sum_of_line, one.written, other.written, one.sum, other.sum, one.line_is, other.line_is, one.numbered, other.numbered)
+  twice_too earlier line one other given = grind (arith, one_written, sum_of_line)
 
   known_of : (earlier : List Weight) (line : List ℕ) (number : ℕ) (weight : Weight) → IsClaimOf signature earlier line number weight → IsResolvedLine signature line
   known_of earlier line number weight is = record { written = is.written; line_is = is.line_is; sum = weight.sum; numbered = is.numbered }
@@ -143,20 +105,11 @@ module _ (signature : Signature) (differ : AllDiffer (map (λ decl. decl.name) s
   not_twice_said earlier line number weight is (inr never) = never is.apart
 
   claim_or_fault : (earlier : List Weight) (line : List ℕ) (number at : ℕ) (weight : Weight) (fault : KeepFault) → IsClaimOf signature earlier line number weight → IsClaimFault signature earlier line at fault → ⊥
-  claim_or_fault earlier line number at weight (Keep n) is why = why.1 is.written is.line_is
-  claim_or_fault earlier line number at weight (KeepName n) is why = none_unknown line why.1.0 is.written weight.sum why.1.1 is.line_is is.numbered why.1.2
-  claim_or_fault earlier line number at weight (KeepTwice n) is why =
-      not_twice_said earlier line number weight is (twice_too earlier line why.1.0 (known_of earlier line number weight is) why.1.1)
-  claim_or_fault earlier line number at weight (KeepSign n) is why =
-      let known = why.1.0 in
-      let claims : weight.claim ≡ claim.Fall = is.claim_is ∙ ap (λ (w : Written). w.claim) (one_written line is.written known.written is.line_is known.line_is) ∙ why.1.2 in
-      why.1.3 (subst AreNotNegative (sum_of_line line is.written known.written weight.sum known.sum is.line_is known.line_is is.numbered known.numbered) (is.signs claims))
+  claim_or_fault earlier line number at weight fault is why = grind (arith, none_unknown, twice_too, known_of, one_written, sum_of_line)
 
   one_fault : (earlier : List Weight) (line : List ℕ) (at : ℕ) (one other : KeepFault) → IsClaimFault signature earlier line at one → IsClaimFault signature earlier line at other → one ≡ other
   one_fault earlier line at (Keep n) (Keep m) a b = ap Keep (a.0 ∙ sym b.0)
   one_fault earlier line at (Keep n) (KeepName m) a b = absurd (a.1 b.1.0 b.1.1)
-  one_fault earlier line at (Keep n) (KeepTwice m) a b = absurd (a.1 b.1.0.written b.1.0.line_is)
-  one_fault earlier line at (Keep n) (KeepSign m) a b = absurd (a.1 b.1.0.written b.1.0.line_is)
   one_fault earlier line at (KeepName n) (Keep m) a b = absurd (b.1 a.1.0 a.1.1)
   one_fault earlier line at (KeepName n) (KeepName m) a b = ap KeepName (a.0 ∙ sym b.0)
   one_fault earlier line at (KeepName n) (KeepTwice m) a b = absurd (none_unknown line a.1.0 b.1.0.written b.1.0.sum a.1.1 b.1.0.line_is b.1.0.numbered a.1.2)
@@ -169,6 +122,7 @@ module _ (signature : Signature) (differ : AllDiffer (map (λ decl. decl.name) s
   one_fault earlier line at (KeepSign n) (KeepName m) a b = absurd (none_unknown line b.1.0 a.1.0.written a.1.0.sum b.1.1 a.1.0.line_is a.1.0.numbered b.1.2)
   one_fault earlier line at (KeepSign n) (KeepTwice m) a b = absurd (a.1.1 (twice_too earlier line b.1.0 a.1.0 b.1.1))
   one_fault earlier line at (KeepSign n) (KeepSign m) a b = ap KeepSign (a.0 ∙ sym b.0)
+  one_fault earlier line at one other a b = absurd (a.1 b.1.0.written b.1.0.line_is)
 
   adds_or_fault : (earlier after : List Weight) (line : List ℕ) (number at : ℕ) (fault : KeepFault) → AddsLine signature number line earlier after → ¬ SaysNothing line → IsClaimFault signature earlier line at fault → ⊥
   adds_or_fault earlier after line number at fault (inl none) says why = says none.0
@@ -197,21 +151,18 @@ module _ (signature : Signature) (differ : AllDiffer (map (λ decl. decl.name) s
       let same = heads first first' (before ++ line ∷ rest) (before' ++ line' ∷ rest') e in
       let after = one_line number first' old a.0 b.0 (subst (λ l. AddsLine signature number l old a.0) same a.1) b.1 in
       let at : number + length (first ∷ before) ≡ number + 1 + length before = omega arith in
-      let at' : number + length (first' ∷ before') ≡ number + 1 + length before' = omega arith in
       first_fault (number + 1) before before' rest rest' line line' b.0 earlier earlier' one other (tails first first' (before ++ line ∷ rest) (before' ++ line' ∷ rest') e)
       (subst (λ claims. AddClaims signature (number + 1) before claims earlier) after a.2) b.2 says says'
-      (subst (λ (n : ℕ). IsClaimFault signature earlier line n one) at why) (subst (λ (n : ℕ). IsClaimFault signature earlier' line' n other) at' why')
+      (subst (λ (n : ℕ). IsClaimFault signature earlier line n one) at why) (subst (λ (n : ℕ). IsClaimFault signature earlier' line' n other) (omega arith) why')
 
   all_or_fault : (number : ℕ) (before rest lines : List (List ℕ)) (line : List ℕ) (old earlier all : List Weight) (at : ℕ) (fault : KeepFault) → lines ≡ before ++ line ∷ rest → AddClaims signature number before old earlier → AddClaims signature number lines old all → ¬ SaysNothing line
       → IsClaimFault signature earlier line at fault → ⊥
-  all_or_fault number [] rest [] line old earlier all at fault e a b says why = absurd cc
   all_or_fault number [] rest (first ∷ lines) line old earlier all at fault e a b says why = grind (arith, adds_or_fault old b.0 line number, heads first line lines rest e, b.0, b.1)
-  all_or_fault number (first ∷ before) rest [] line old earlier all at fault e a b says why = absurd cc
   all_or_fault number (first ∷ before) rest (first' ∷ lines) line old earlier all at fault e a b says why =
-      let same = heads first' first lines (before ++ line ∷ rest) e in
-      let after = one_line number first old a.0 b.0 a.1 (subst (λ l. AddsLine signature number l old b.0) same b.1) in
+      let after = one_line number first old a.0 b.0 a.1 (subst (λ l. AddsLine signature number l old b.0) (heads first' first lines (before ++ line ∷ rest) e) b.1) in
       all_or_fault (number + 1) before rest lines line b.0 earlier all at fault (tails first' first lines (before ++ line ∷ rest) e)
       (subst (λ claims. AddClaims signature (number + 1) before claims earlier) after a.2) b.2 says why
+  all_or_fault number before rest lines line old earlier all at fault e a b says why = absurd cc
 
 module _ (program : Parts) (differ : AllDiffer (map (λ decl. decl.name) program.signature.preds)) (bytes : List ℕ) where
   pub one_list : (one other : List Weight) → HasClaims program bytes one → HasClaims program bytes other → one ≡ other

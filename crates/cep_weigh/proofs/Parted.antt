@@ -20,17 +20,13 @@ pub record PartsSoFar (words : List (List ℕ)) (parts : List NamedPart) (left :
   pub each : AllByRecursion IsNamedPart parts
   pub cut : words ≡ parts_words true parts ++ left
 
-pub nothing_read : (words : List (List ℕ)) → PartsSoFar words [] words
-nothing_read words = record { each = tt; cut = refl }
-
 -- whether the next part is the first, where these came before and the first of them was the first or not
 abbrev after : Bool → List NamedPart → Bool
 after first [] = first
 after first (part ∷ parts) = false
 
 after_all : (parts : List NamedPart) → after true parts ≡ is_first parts
-after_all [] = refl
-after_all (part ∷ parts) = refl
+after_all parts = refl
 
 one_more : (first : Bool) (parts : List NamedPart) (part : NamedPart) → parts_words first (parts ++ part ∷ []) ≡ parts_words first parts ++ (mark_of (after first parts) ∷ signed_decimal part.factor ∷ part.name ∷ [])
 one_more first [] part = refl
@@ -59,8 +55,6 @@ tails : {X : Type 0} (a b c a' b' c' : X) (xs ys : List X) → a ∷ b ∷ c ∷
 tails a b c a' b' c' xs ys e = cc
 
 left_by : (first : Bool) (parts all : List NamedPart) (left : List (List ℕ)) → AllByRecursion IsNamedPart all → parts_words first parts ++ left ≡ parts_words first all → Left first parts left
-left_by first [] all left each e = record { further = all; each = each; words = e }
-left_by first (part ∷ parts) [] left each e = absurd cc
 left_by first (part ∷ parts) (other ∷ all) left each e =
     let rest = left_by false parts all left each.1 (tails _ _ _ _ _ _ _ _ e) in
     record { further = rest.further; each = rest.each; words = rest.words ∙ ap (λ b. parts_words b rest.further) (same parts) }
@@ -68,6 +62,7 @@ left_by first (part ∷ parts) (other ∷ all) left each e =
     same : (parts : List NamedPart) → after false parts ≡ false
     same [] = refl
     same (part ∷ parts) = refl
+left_by first parts all left each e = grind arith
 
 pub left_is : (words : List (List ℕ)) (parts all : List NamedPart) (left : List (List ℕ)) → PartsSoFar words parts left → AllByRecursion IsNamedPart all → words ≡ parts_words true all → IsLeft parts left
 left_is words parts all left so_far each e = grind (arith, left_by true parts all left each (sym so_far.cut ∙ e), after_all parts, so_far.cut)
@@ -86,10 +81,7 @@ stuck words parts all left so_far each e some never = by (left_is words parts al
 -- the words of a slice of three or more, one by one
 pub three : {X : Type 0} (now : X → List ℕ) (xs : List X) (d d' d'' : X) (n : ℕ) → n ≡ length xs → 3 ≤ length xs
     → map now xs ≡ now (get_or xs 0 d) ∷ now (get_or xs 1 d') ∷ now (get_or xs 2 d'') ∷ map now (take (n - 3) (drop 3 xs))
-three now [] d d' d'' n e many = absurd (omega arith)
-three now (x ∷ []) d d' d'' n e many = absurd (omega arith)
-three now (x ∷ y ∷ []) d d' d'' n e many = absurd (omega arith)
-three now (x ∷ y ∷ z ∷ xs) d d' d'' n e many = ap (λ rest. now x ∷ now y ∷ now z ∷ map now rest) (sym (take_all (n - 3) xs (omega arith)))
+three now xs d d' d'' n e many = grind (arith, take_all)
 
 pub some_at : {X : Type 0} (o : Option X) (x : X) (P : X → Type 0) → o ≡ Some x → IfSome o P → P x
 some_at o x P is holds = let h : IfSome (Some x) P = subst (λ p. IfSome p P) is holds in h
@@ -98,16 +90,11 @@ pub none_at : {X : Type 0} (o : Option X) (P : Type 0) → o ≡ None → IfNone
 none_at {X} o P is holds = let h : IfNone {T = X} None P = subst (λ p. IfNone p P) is holds in h
 
 pub first_is : (b : Bool) (parts : List NamedPart) → (IsTrue b ↔ (parts ≡ [])) → b ≡ is_first parts
-first_is true [] h = refl
-first_is true (part ∷ parts) h = absurd (let e : part ∷ parts ≡ [] = h.0 refl in cc)
-first_is false [] h = h.1 refl
-first_is false (part ∷ parts) h = refl
+first_is b parts h = grind arith
 
 short : {X : Type 0} (now : X → List ℕ) (xs : List X) (a b c : List ℕ) (rest : List (List ℕ)) → length xs < 3 → map now xs ≡ a ∷ b ∷ c ∷ rest → ⊥
-short now [] a b c rest few e = absurd cc
-short now (x ∷ []) a b c rest few e = absurd cc
-short now (x ∷ y ∷ []) a b c rest few e = absurd cc
 short now (x ∷ y ∷ z ∷ xs) a b c rest few e = absurd (omega arith)
+short now xs a b c rest few e = absurd cc
 
 some_left : {X : Type 0} (now : X → List ℕ) (xs : List X) → (xs ≡ [] → ⊥) → map now xs ≡ [] → ⊥
 some_left now [] some e = some refl
@@ -128,7 +115,6 @@ pub stuck_part : (words : List (List ℕ)) (parts all : List NamedPart) (left re
 stuck_part words parts all left rest mark factor name so_far each e is never =
     stuck words parts all left so_far each e (λ none. absurd (cc (is, none)))
     (λ behind part same named.
-    let h : mark ∷ factor ∷ name ∷ rest ≡ mark_of (is_first parts) ∷ signed_decimal part.factor ∷ part.name ∷ behind = sym is ∙ same in
     let spelled : factor ≡ signed_decimal part.factor = cc in
     let called : name ≡ part.name = cc in
     never part named spelled called)

@@ -1,20 +1,17 @@
 -- What a step does to the copies of a linear predicate.
-use Rattle.std.proofs.Common.{◌≡◌, ℕ, ◌+◌, Bool, true, false, cond, not, ◌&&◌, ◌||◌, ◌==◌, List, [], ◌∷◌, ◌++◌, map, Some, None, refl, sym, ap, subst, ◌∙◌, arith, IsSomeAnd, slice_get}
-use Rattle.std.specs.Prelude.{filter, count_by, option_map, unwrap_or, Option}
+use Rattle.std.proofs.Common.{◌≡◌, ℕ, ◌+◌, Bool, true, false, cond, not, ◌&&◌, ◌||◌, ◌==◌, List, [], ◌∷◌, map, refl, sym, arith, IsSomeAnd, slice_get}
+use Rattle.std.specs.Prelude.{filter, count_by}
 use Rattle.std.proofs.lemmas.Bool.{eqb-true, false≢true}
 use Rattle.std.proofs.lemmas.List.Sums.{sum_by-cons, sum_by-append}
 use Rattle.cep_base.specs.declared.kind.PredKind.TheVariants.{Linear}
-use Rattle.cep_base.specs.Kinds.{is_of_facts}
 use Rattle.cep_term.specs.Tree.{Tree, AtomTree}
 use Rattle.cep_term.specs.BagLaws.{BagLaws}
 use Rattle.cep_term.specs.Multiset.{Multiset, gathered, sum_of, once}
 use Rattle.cep_rule.specs.declared.signature.Signature.{Signature}
-use Rattle.cep_rule.specs.declared.signature.PredDecl.{PredDecl}
 use Rattle.cep_rule.specs.declared.rule.Rule.{Rule}
 use Rattle.cep_rule.specs.Patterns.{PremiseTree}
-use Rattle.cep_rule.specs.Binding.{needed_of}
 use Rattle.cep_rule.specs.Typing.{is_fact}
-use Rattle.cep_rule.specs.Instances.{full_instance, full_instances, kept_of}
+use Rattle.cep_rule.specs.Instances.{full_instance, full_instances}
 use Rattle.cep_rule.specs.Step.{Step}
 use Rattle.cep_weigh.specs.Weights.{copies_of_pred, used_of, made_of}
 use Rattle.cep_weigh.proofs.CopiesOf.{copies_sum, copies_gathered, copies_once}
@@ -33,10 +30,7 @@ linear_is_no_fact signature pred linear a is = grind (arith, eqb-true, signature
 -- an instance has the predicate of its pattern
 instance_preds : (values : List Tree) (pred : ℕ) (atoms : List AtomTree) → count_by (of_pred pred) (full_instances values atoms) ≡ count_by (of_pred pred) atoms
 instance_preds values pred [] = refl
-instance_preds values pred (a ∷ atoms) =
-    let one = sum_by-cons (λ x. cond (of_pred pred x) 1 0) a atoms in
-    let other = sum_by-cons (λ x. cond (of_pred pred x) 1 0) (full_instance values a) (full_instances values atoms) in
-    omega (arith, instance_preds values pred atoms)
+instance_preds values pred (a ∷ atoms) = omega (arith, instance_preds values pred atoms, sum_by-cons (λ x. cond (of_pred pred x) 1 0) a atoms, sum_by-cons (λ x. cond (of_pred pred x) 1 0) (full_instance values a) (full_instances values atoms))
 
 module _ (laws : BagLaws) (signature : Signature) (pred : ℕ) (linear : IsLinear signature pred) where
   side_copies : (values : List Tree) (atoms : List AtomTree) (rest : Multiset) → copies_of_pred (once (is_fact signature) (sum_of (once (is_fact signature) (gathered (full_instances values atoms))) rest)) pred ≡ count_by (of_pred pred) atoms + copies_of_pred rest pred

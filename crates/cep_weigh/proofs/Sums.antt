@@ -1,12 +1,11 @@
 -- Weighed sums: how they change, and that they are not negative.
-use Rattle.std.proofs.Common.{◌≡◌, ⊎_elim, true, false, cond, ◌==◌, eq-eqb, ℕ, suc, ◌+◌, ◌*◌, List, [], ◌∷◌, Contains, refl, sym, ap, subst, ◌∙◌, arith, mul-add, mul-one, ℤ, pos, negsuc, neg_ℤ, ◌+ℤ◌, ◌-ℤ◌, ◌*ℤ◌, ◌≤ℤ◌, ◌<ℤ◌}
+use Rattle.std.proofs.Common.{◌≡◌, ⊎_elim, true, false, cond, ◌==◌, eq-eqb, ℕ, ◌+◌, ◌*◌, List, [], ◌∷◌, Contains, refl, sym, ap, subst, ◌∙◌, arith, mul-add, mul-one, ℤ, pos, neg_ℤ, ◌+ℤ◌, ◌-ℤ◌, ◌*ℤ◌, ◌≤ℤ◌}
 use Rattle.std.specs.List.{AllByRecursion}
 use Rattle.std.proofs.lemmas.Int.{ints}
 use Rattle.std.proofs.lemmas.Bool.{eqb-true, eqb-false}
-use Rattle.std.proofs.Math.IntN.{pos-*ℤ-pos, negsuc-*ℤ-pos, *ℤ-zero}
+use Rattle.std.proofs.Math.IntN.{*ℤ-zero}
 use Rattle.cep_base.proofs.Elements.{contains_none, contains_cases}
 use Rattle.cep_weigh.specs.declared.weight.Claim.{Claim}
-use Rattle.cep_weigh.specs.declared.weight.Claim.TheVariants.{Keep, Most, Fall}
 use Rattle.cep_weigh.specs.declared.weight.Part.{Part}
 use Rattle.cep_weigh.specs.Weights.{weighed, Wants, AreNotNegative, ArePositive, factor_of}
 
@@ -14,8 +13,7 @@ neg_sum : (x y : ℕ) → neg_ℤ (pos (x + y)) ≡ neg_ℤ (pos x) +ℤ neg_ℤ
 neg_sum x y = omega (arith, ints)
 
 pub scaled : (f : ℤ) (a b : ℕ) → f *ℤ pos (a + b) ≡ (f *ℤ pos a) +ℤ (f *ℤ pos b)
-scaled (pos m) a b = pos-*ℤ-pos m (a + b) ∙ ap pos (mul-add m a b) ∙ sym (λ i. pos-*ℤ-pos m a i +ℤ pos-*ℤ-pos m b i)
-scaled (negsuc m) a b = grind (arith, mul-add, neg_sum)
+scaled f a b = grind (arith, mul-add, neg_sum)
 
 both : (x y z w x' y' z' w' : ℤ) → x +ℤ y ≡ z +ℤ w → x' +ℤ y' ≡ z' +ℤ w' → (x +ℤ x') +ℤ (y +ℤ y') ≡ (z +ℤ z') +ℤ (w +ℤ w')
 both x y z w x' y' z' w' e f = omega (arith, ints)
@@ -33,18 +31,13 @@ by_difference new left old right e = omega (arith, ints)
 
 -- what is wanted of the sides is what is wanted of the states, and the other way round
 pub wants_states : (claim : Claim) (new left old right : ℤ) → new ≡ old +ℤ (right -ℤ left) → Wants claim left right → Wants claim old new
-wants_states Keep new left old right e wants = omega (arith, ints)
-wants_states Most new left old right e wants = omega (arith, ints)
-wants_states Fall new left old right e wants = omega (arith, ints)
+wants_states claim new left old right e wants = grind (arith, ints)
 
 pub wants_sides : (claim : Claim) (new left old right : ℤ) → new ≡ old +ℤ (right -ℤ left) → Wants claim old new → Wants claim left right
-wants_sides Keep new left old right e wants = omega (arith, ints)
-wants_sides Most new left old right e wants = omega (arith, ints)
-wants_sides Fall new left old right e wants = omega (arith, ints)
+wants_sides claim new left old right e wants = grind (arith, ints)
 
 scaled_not_negative : (f : ℤ) (n : ℕ) → pos 0 ≤ℤ f → pos 0 ≤ℤ (f *ℤ pos n)
-scaled_not_negative (pos m) n some = subst (λ z. pos 0 ≤ℤ z) (sym (pos-*ℤ-pos m n)) (omega (arith, ints))
-scaled_not_negative (negsuc m) n some = absurd (omega (arith, ints))
+scaled_not_negative f n some = grind (arith, ints)
 
 pub weighed_not_negative : (parts : List Part) (count : ℕ → ℕ) → AreNotNegative parts → pos 0 ≤ℤ weighed parts count
 weighed_not_negative [] count all = omega (arith, ints)
@@ -81,8 +74,7 @@ pub scaled_none : (f : ℤ) → f *ℤ pos 0 ≡ pos 0
 scaled_none f = *ℤ-zero f
 
 pub scaled_one : (f : ℤ) → f *ℤ pos 1 ≡ f
-scaled_one (pos m) = pos-*ℤ-pos m 1 ∙ ap pos (mul-one m)
-scaled_one (negsuc m) = negsuc-*ℤ-pos m 1 ∙ ap (λ n. neg_ℤ (pos n)) (mul-one (suc m))
+scaled_one f = grind (arith, mul-one)
 
 pub weighed_none : (parts : List Part) → weighed parts (λ p. 0) ≡ pos 0
 weighed_none [] = refl

@@ -1,5 +1,5 @@
 -- Tables of names: what a look-up gives after an addition, and which names stand in them.
-use Rattle.std.proofs.Common.{◌≡◌, ⊎_elim, ℕ, zero, suc, ◌+◌, ◌<◌, ◌≤◌, Bool, true, false, cond, ◌||◌, List, [], ◌∷◌, ◌++◌, length, map, Option, Some, None, is_some, refl, sym, ap, ◌∙◌, subst, arith, Contains, slice_get, IsSomeAnd}
+use Rattle.std.proofs.Common.{◌≡◌, ⊎_elim, ℕ, zero, suc, ◌+◌, ◌<◌, Bool, true, false, ◌||◌, List, [], ◌∷◌, ◌++◌, length, map, Option, Some, None, is_some, refl, sym, ap, ◌∙◌, subst, arith, Contains, slice_get, IsSomeAnd}
 use Rattle.std.specs.Prelude.{MatchOption, if◌then◌else◌}
 use Rattle.std.specs.List.{list_any}
 use Rattle.std.specs.Str.{bytes_eq}
@@ -44,9 +44,7 @@ adds_there table name number there other = by (under_name table other) refl (byt
   by (Some n) is b same = refl
   by None is false same = refl
   by None is true same =
-      let found : is_some (under_name table name) ≡ true = sym (any_found name table) ∙ there in
-      let none : is_some (under_name table name) ≡ false = ap (λ n. is_some (under_name table n)) (sym (same_bytes other name same)) ∙ ap is_some is in
-      absurd (false≢true (sym none ∙ found))
+      absurd (false≢true (sym (ap (λ n. is_some (under_name table n)) (sym (same_bytes other name same)) ∙ ap is_some is) ∙ (sym (any_found name table) ∙ there)))
 
 adds_new : (table new : Table) (name : List ℕ) (number : ℕ) → new ≡ table ++ (name, number) ∷ [] → AddsName table name number new
 adds_new table new name number is other = ap (λ t. under_name t other) is ∙ number_pushed other table name number
@@ -60,9 +58,6 @@ NamedBelow signature most name o = MatchOption o ((pred : ℕ) → pred < most �
 
 pub linear_found : (signature : Signature) (table : Table) → NamesLinear signature table → (name : List ℕ) (o : Option ℕ) (pred : ℕ) → o ≡ under_name table name → o ≡ Some pred → IsLinearNamed signature pred name
 linear_found signature table names name o pred is there = grind arith
-
-pub linear_missed : (signature : Signature) (table : Table) → NamesLinear signature table → (name : List ℕ) (o : Option ℕ) → o ≡ under_name table name → o ≡ None → (pred : ℕ) → ¬ IsLinearNamed signature pred name
-linear_missed signature table names name o is none = grind arith
 
 pub below_none : (signature : Signature) → NamesLinearBelow signature 0 []
 below_none signature name pred low = absurd (omega arith)
@@ -91,10 +86,6 @@ below_all signature table below name = by (under_name table name) (below name) w
       → MatchOption o ((pred : ℕ) → ¬ IsLinearNamed signature pred name) (λ pred. IsLinearNamed signature pred name)
   by (Some n) is = is
   by None never = λ pred named. never pred (within signature.preds pred named) named
-
--- the names of claims
-pub no_claims : NamesClaims [] []
-no_claims name = ((λ found. absurd (false≢true found)), (λ there. absurd (contains_none name there)))
 
 has_pushed : (name : List ℕ) (table : Table) (other : List ℕ) (number : ℕ) → has_name (table ++ (other, number) ∷ []) name ≡ (has_name table name || bytes_eq name other)
 has_pushed name [] other number = grind arith

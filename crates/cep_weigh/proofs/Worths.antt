@@ -3,7 +3,6 @@ use Rattle.std.proofs.Common.{◌≡◌, T, ℕ, ◌+◌, Bool, true, false, con
 use Rattle.std.specs.Prelude.{sum_by, fold}
 use Rattle.std.proofs.lemmas.Bool.{eqb-true}
 use Rattle.std.proofs.lemmas.List.Sums.{sum_by-cons}
-use Rattle.std.specs.declared.cmp.Ordering.{Ordering}
 use Rattle.std.specs.declared.cmp.Ordering.TheVariants.{Less, Equal, Greater}
 use Rattle.std.specs.Ordering.{is_eq, is_lt, eq_by_cmp}
 use Rattle.std.specs.Cmp.{eq_by_cmp_equiv, alike_right}
@@ -14,49 +13,36 @@ use Rattle.cep_term.specs.Order.{atom_cmp}
 use Rattle.cep_term.specs.BagLaws.{BagLaws}
 use Rattle.cep_term.specs.Multiset.{Multiset, count_of, with_count}
 use Rattle.cep_term.specs.Entries.{IsRising, find_count}
+use Rattle.cep_base.proofs.Sorted.{is_less}
 
 abbrev pub Counted : Type 0
 Counted = AtomTree × ℕ
 
 is_true : (b : Bool) → T b → b ≡ true
-is_true true h = refl
-is_true false h = absurd h
+is_true b h = grind arith
 
 and_parts : (a b : Bool) → (a && b) ≡ true → (a ≡ true) × (b ≡ true)
-and_parts true b e = (refl, e)
-and_parts false b e = cc
-
-is_less : (r : Ordering) → is_lt r ≡ true → r ≡ Less
-is_less Less e = refl
-is_less Equal e = cc
-is_less Greater e = cc
+and_parts a b e = grind arith
 
 -- the entries without the atom's
 abbrev without : AtomTree → List Counted → List Counted
 without a es = where_key atom_cmp (λ b. not (eq_by_cmp atom_cmp a b)) es
 
 turned : (b : Bool) (o : Option ℕ) → cond (not b) o None ≡ cond b None o
-turned true o = refl
-turned false o = refl
+turned b o = grind arith
 
 module _ (laws : BagLaws) where
   below_further : (a b : AtomTree) (es : List Counted) → atom_cmp a b ≡ Less → below_all atom_cmp b es ≡ true → below_all atom_cmp a es ≡ true
   below_further a b [] less h = refl
-  below_further a b (e ∷ es) less h =
-      let parts = and_parts (is_lt (atom_cmp b e.0)) (below_all atom_cmp b es) h in
-      ap (λ r. is_lt r && below_all atom_cmp a es) (laws.total.trans a b e.0 less (is_less (atom_cmp b e.0) parts.0)) ∙ below_further a b es less parts.1
+  below_further a b (e ∷ es) less h = let parts = and_parts (is_lt (atom_cmp b e.0)) (below_all atom_cmp b es) h in rw (laws.total.trans a b e.0 less (is_less (atom_cmp b e.0) parts.0), below_further a b es less parts.1)
 
   find_below : (a : AtomTree) (es : List Counted) → below_all atom_cmp a es ≡ true → find atom_cmp a es ≡ None
   find_below a [] h = refl
-  find_below a (e ∷ es) h =
-      let parts = and_parts (is_lt (atom_cmp a e.0)) (below_all atom_cmp a es) h in
-      ap (λ r. cond (is_eq r) (Some e.1) (find atom_cmp a es)) (is_less (atom_cmp a e.0) parts.0) ∙ find_below a es parts.1
+  find_below a (e ∷ es) h = let parts = and_parts (is_lt (atom_cmp a e.0)) (below_all atom_cmp a es) h in rw (is_less (atom_cmp a e.0) parts.0, find_below a es parts.1)
 
   keep_below : (a : AtomTree) (es : List Counted) → below_all atom_cmp a es ≡ true → without a es ≡ es
   keep_below a [] h = refl
-  keep_below a (e ∷ es) h =
-      let parts = and_parts (is_lt (atom_cmp a e.0)) (below_all atom_cmp a es) h in
-      ap (λ r. cond (not (is_eq r)) (e ∷ without a es) (without a es)) (is_less (atom_cmp a e.0) parts.0) ∙ ap (λ z. e ∷ z) (keep_below a es parts.1)
+  keep_below a (e ∷ es) h = let parts = and_parts (is_lt (atom_cmp a e.0)) (below_all atom_cmp a es) h in rw (is_less (atom_cmp a e.0) parts.0, keep_below a es parts.1)
 
   -- the entries after a count is set
   entries_removed : (bag : Multiset) (a : AtomTree) → finite.entries (finite.remove bag a) ≡ without a (finite.entries bag)
@@ -118,6 +104,4 @@ module _ (laws : BagLaws) where
     pub worth_sum : ((a : AtomTree) (n m : ℕ) → worth a (n + m) ≡ worth a n + worth a m) → (es : List Counted) (bag : Multiset)
         → worth_of (finite.entries (fold (λ (so_far : Multiset) e. with_count so_far e.0 (count_of so_far e.0 + e.1)) bag es)) ≡ worth_of (finite.entries bag) + worth_of es
     worth_sum adds [] bag = omega arith
-    worth_sum adds (e ∷ es) bag =
-        let next = with_count bag e.0 (count_of bag e.0 + e.1) in
-        omega (arith, worth_sum adds es next, worth_set bag e.0 (count_of bag e.0 + e.1), adds e.0 (count_of bag e.0) e.1, worth_of-cons e es)
+    worth_sum adds (e ∷ es) bag = omega (arith, worth_sum adds es (with_count bag e.0 (count_of bag e.0 + e.1)), worth_set bag e.0 (count_of bag e.0 + e.1), adds e.0 (count_of bag e.0) e.1, worth_of-cons e es)
