@@ -1,6 +1,6 @@
 -- The dead rules by the last table, and their whys.
 use Rattle.std.proofs.Common.{◌≡◌, inl, inr, ℕ, ◌+◌, ◌<◌, ◌≤◌, Bool, true, List, [], ◌∷◌, ◌++◌, length, map, Contains, sym, ap, subst, ◌∙◌, arith}
-use Rattle.std.specs.Prelude.{Option, Some, None, slice_get, MatchOption, Result, Ok, Err, IfOk}
+use Rattle.std.specs.Prelude.{Option, Some, None, slice_get, MatchOption, Result, IfOk}
 use Rattle.std.specs.List.{AllByRecursion}
 use Rattle.std.proofs.lemmas.Bool.{cases_lt}
 use Rattle.cep_base.proofs.Lists.{some_same, map_last, all_pushed, all_weaker}
@@ -15,7 +15,7 @@ use Rattle.cep_rule.specs.Steps.{Spot}
 use Rattle.cep_rule.specs.Program.{IsProgram}
 use Rattle.cep_dead.specs.declared.dead_rule.DeadRule.{DeadRule}
 use Rattle.cep_dead.specs.declared.dead_rule.DeadWhy.{DeadWhy}
-use Rattle.cep_dead.specs.declared.dead_rule.DeadWhy.TheVariants.{Stage, Premise, Var}
+use Rattle.cep_dead.specs.declared.dead_rule.DeadWhy.TheVariants.{Var}
 use Rattle.cep_dead.specs.Tables.{Possibility, of_stage, StandsAlone, IsOpen, CanBegin}
 use Rattle.cep_dead.specs.Rounds.{stage_of, premises_of, RulePasses, IsDead, IsInSomeRound}
 use Rattle.cep_dead.specs.Moves.{first_spot, AreMoves}
@@ -39,9 +39,8 @@ module _ (program : Parts) (table other : Possibility → Type 0) (there : (item
   }
 
   pub same_why : (why : DeadWhy) → IsWhy program table rule why → IsWhy program other rule why
-  same_why (Stage stage) is = (is.0, λ stands. is.1 (back (of_stage stage) stands))
-  same_why (Premise place) is = (there (of_stage (stage_of rule)) is.0, same_shut place is.1)
   same_why (Var v) is = (there (of_stage (stage_of rule)) is.0, all_weaker (IsOpen table) (IsOpen other) (premises_of rule) (open_later table other there) is.1, same_empty v is.2)
+  same_why why is = grind (arith, same_shut)
 
 increasing_last : (numbers : List ℕ) (n : ℕ) → AllByRecursion (λ m. m < n) numbers → AreStrictlyIncreasing numbers → AreStrictlyIncreasing (numbers ++ n ∷ [])
 increasing_last [] n below are = (tt, tt)
@@ -58,9 +57,6 @@ pub record AreDeadsBelow (program : Parts) (i : ℕ) (deads : List DeadRule) : T
   pub each : AllByRecursion (IsDeadFor program) deads
   pub all : (number : ℕ) (rule : Rule) → number < i → slice_get program.rules number ≡ Some rule → IsDead program rule → Contains (map (λ dead. dead.rule) deads) number
 
-pub no_deads : (program : Parts) → AreDeadsBelow program 0 []
-no_deads program = record { below = tt; in_order = tt; each = tt; all = λ number rule less. absurd (omega arith) }
-
 module _ (program : Parts) (has : Possibility → Bool) (last : IsLastTable program has) where
   abbrev table : Possibility → Type 0
   table item = has item ≡ true
@@ -74,8 +70,7 @@ module _ (program : Parts) (has : Possibility → Bool) (last : IsLastTable prog
       all = λ number other less at dead. elim (cases_lt number i) [
         | inl before ↦ are.all number other before at dead
         | inr here ↦ (
-            let same_number : number ≡ i = omega arith in
-            let same : other ≡ rule = some_same other rule (sym at ∙ ap (slice_get program.rules) same_number ∙ is) in
+            let same : other ≡ rule = some_same other rule (sym at ∙ ap (slice_get program.rules) (omega arith) ∙ is) in
             absurd (dead_in_all program other dead (rule_later program table (IsInSomeRound program) last.sound other (subst (RulePasses program table) (sym same) passes))))
       ];
     }
@@ -119,8 +114,7 @@ each_never program kept never (dead ∷ deads) each = (one, each_never program k
         never program height moves last rule offer kept are (subst (IsDead program) (sym same) (why_dead program each.0.rule dead.why each.0.why)) (ap (slice_get program.rules) offered ∙ numbered) in_stage
 
 pub none_applies : {E : Type 0} (program parts : Parts) → parts ≡ program → IsProgram program → DeadNeverApply → (r : Result (List DeadRule) E) → IfOk r (AreDeads parts) → IfOk r (AllByRecursion (λ dead. NeverApplies program dead.rule))
-none_applies program parts same kept never (Err e) are = tt
-none_applies program parts same kept never (Ok deads) are = each_never program kept never deads (subst (λ p. AllByRecursion (IsDeadFor p) deads) same are.each)
+none_applies program parts same kept never r are = grind (arith, each_never)
 
 -- why a rule does not pass, from what was told of slices
 module _ (program : Parts) (table : Possibility → Type 0) (rule : Rule) (kinds : List ℕ) (same_kinds : kinds ≡ rule.kinds) where

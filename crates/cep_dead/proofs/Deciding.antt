@@ -1,6 +1,6 @@
 -- The tests of what a table holds decide the definitions.
 use Rattle.std.proofs.Common.{◌≡◌, ◌⊎◌, ⊎_elim, inl, inr, ℕ, zero, suc, ◌+◌, ◌==◌, Bool, true, false, not, ◌&&◌, ◌||◌, List, [], ◌∷◌, Contains, refl, sym, ap, subst, ◌∙◌, eqb-true, eq-eqb, zero-add, arith}
-use Rattle.std.specs.Prelude.{Option, Some, None, option_map, unwrap_or, IsSomeAnd}
+use Rattle.std.specs.Prelude.{Option, Some, option_map, unwrap_or, IsSomeAnd}
 use Rattle.std.proofs.lemmas.Bool.{false≢true}
 use Rattle.cep_base.proofs.Lists.{none_some, some_same}
 use Rattle.cep_base.proofs.Elements.{contains_first, contains_behind, contains_cases, contains_none}
@@ -32,12 +32,10 @@ from_not_or : (a b : Bool) → (not a || b) ≡ true → a ≡ true → b ≡ tr
 from_not_or a b e e' = grind arith
 
 to_not_or : (a b : Bool) → (a ≡ true → b ≡ true) → (not a || b) ≡ true
-to_not_or true b h = h refl
-to_not_or false b h = refl
+to_not_or a b h = grind arith
 
 var_true : (v : ℕ) (t : Tree) → is_variable v t ≡ true → t ≡ variable v
-var_true v (variable w) e = ap variable (eqb-true w v e)
-var_true v (node c args) e = absurd (false≢true e)
+var_true v t e = grind (arith, eqb-true)
 
 var_is : (v : ℕ) (t : Tree) → t ≡ variable v → is_variable v t ≡ true
 var_is v t e = ap (is_variable v) e ∙ eq-eqb v v refl
@@ -55,9 +53,8 @@ among_true v (more t rest) e =
     ⊎_elim (λ (here : is_variable v t ≡ true). (0, ap Some (var_true v t here))) (λ (later : is_among v rest ≡ true). let at = among_true v rest later in (suc at.0, at.1)) (case_or (is_variable v t) (is_among v rest) e)
 
 among_is : (v : ℕ) (args : Trees) (i : ℕ) → nth_argument args i ≡ Some (variable v) → is_among v args ≡ true
-among_is v none i at = none_some (variable v) at
-among_is v (more t rest) zero at = either_first (is_variable v t) (is_among v rest) (var_is v t (some_same t (variable v) at))
 among_is v (more t rest) (suc i) at = either_second (is_variable v t) (is_among v rest) (among_is v rest i at)
+among_is v args i at = grind (arith, none_some, either_first, var_is, some_same)
 
 pub alone_true : (atoms : List AtomTree) (v : ℕ) → stands_alone atoms v ≡ true → StandsAlone atoms v
 alone_true [] v e = absurd (false≢true e)
@@ -78,9 +75,8 @@ module _ (has : Possibility → Bool) where
   table item = has item ≡ true
 
   args_true : (p i : ℕ) (args : Trees) → are_args_open has p i args ≡ true → (j c : ℕ) (sub : Trees) → nth_argument args j ≡ Some (node c sub) → has (of_con p (i + j) c) ≡ true
-  args_true p i none e j c sub at = none_some (node c sub) at
-  args_true p i (more t rest) e zero c sub at = grind (arith, this_place, some_same, first_of)
   args_true p i (more t rest) e (suc j) c sub at = grind (arith, next_place, second_of, args_true p (i + 1) rest (second_of (is_term_open has p i t) (are_args_open has p (i + 1) rest) e) j c sub)
+  args_true p i args e j c sub at = grind (arith, none_some, this_place, some_same, first_of)
 
   args_are : (p i : ℕ) (args : Trees) → ((j c : ℕ) (sub : Trees) → nth_argument args j ≡ Some (node c sub) → has (of_con p (i + j) c) ≡ true) → are_args_open has p i args ≡ true
   args_are p i none each = refl
@@ -100,10 +96,9 @@ module _ (has : Possibility → Bool) where
   open_is a is = both (has (of_pred a.pred)) (are_args_open has a.pred 0 a.args) is.pred (args_are a.pred 0 a.args (λ j c sub at. rw (zero-add j) (is.cons j c (sub, at))))
 
   kept_args_true : (p i : ℕ) (args : Trees) (v c : ℕ) → is_kept_among has p i args v c ≡ true → (j : ℕ) → nth_argument args j ≡ Some (variable v) → has (of_con p (i + j) c) ≡ true
-  kept_args_true p i none v c e j at = none_some (variable v) at
-  kept_args_true p i (more t rest) v c e zero at = grind (arith, this_place, from_not_or, first_of, var_is, some_same)
   kept_args_true p i (more t rest) v c e (suc j) at =
       rw (← next_place i j) (kept_args_true p (i + 1) rest v c (second_of (not (is_variable v t) || has (of_con p i c)) (is_kept_among has p (i + 1) rest v c) e) j at)
+  kept_args_true p i args v c e j at = grind (arith, none_some, this_place, from_not_or, first_of, var_is, some_same)
 
   kept_args_are : (p i : ℕ) (args : Trees) (v c : ℕ) → ((j : ℕ) → nth_argument args j ≡ Some (variable v) → has (of_con p (i + j) c) ≡ true) → is_kept_among has p i args v c ≡ true
   kept_args_are p i none v c each = refl
@@ -131,16 +126,10 @@ module _ (has : Possibility → Bool) where
     sorted kind = unwrap_or (option_map (λ sort. is_of_sort signature.cons sort c) kind) false
 
     of_sort_true : (kind : Option ℕ) (con : Option Con) → unwrap_or (option_map (λ sort. unwrap_or (option_map (λ (k : Con). k.sort == sort) con) false) kind) false ≡ true → IsSomeAnd con (λ k. kind ≡ Some k.sort)
-    of_sort_true None None e = absurd (false≢true e)
-    of_sort_true None (Some con) e = absurd (false≢true e)
-    of_sort_true (Some sort) None e = absurd (false≢true e)
-    of_sort_true (Some sort) (Some con) e = ap Some (sym (eqb-true con.sort sort e))
+    of_sort_true kind con e = grind (arith, eqb-true)
 
     of_sort_is : (kind : Option ℕ) (con : Option Con) → IsSomeAnd con (λ k. kind ≡ Some k.sort) → unwrap_or (option_map (λ sort. unwrap_or (option_map (λ (k : Con). k.sort == sort) con) false) kind) false ≡ true
-    of_sort_is None None is = absurd is
-    of_sort_is None (Some con) is = none_some con.sort is
-    of_sort_is (Some sort) None is = absurd is
-    of_sort_is (Some sort) (Some con) is = eq-eqb con.sort sort (sym (some_same sort con.sort is))
+    of_sort_is kind con is = grind (arith, none_some, eq-eqb, some_same)
 
     pub begin_true : can_begin signature has kinds premises v c ≡ true → CanBegin signature table kinds premises v c
     begin_true e = grind (arith, kept_true, alone_true, alone_is, of_sort_true, signature.cons)
@@ -170,9 +159,8 @@ module _ (sets : ℕ → ℕ → Bool) where
       (case_or (((q == p) && (k == i)) && is_begun sets t c) (is_added_among sets p (i + 1) rest (of_con q k c)) e)
 
   added_is : (p i : ℕ) (args : Trees) (k c j : ℕ) (t : Tree) → nth_argument args j ≡ Some t → k ≡ i + j → is_begun sets t c ≡ true → is_added_among sets p i args (of_con p k c) ≡ true
-  added_is p i none k c j t at here begun = none_some t at
-  added_is p i (more u rest) k c zero t at here begun = grind (arith, either_first, both, eq-eqb, this_place, some_same)
   added_is p i (more u rest) k c (suc j) t at here begun = grind (arith, either_second, next_place, added_is p (i + 1) rest k c j t)
+  added_is p i args k c j t at here begun = grind (arith, none_some, either_first, both, eq-eqb, this_place, some_same)
 
   no_pred : (p i : ℕ) (args : Trees) (q : ℕ) → is_added_among sets p i args (of_pred q) ≡ true → ⊥
   no_pred p i none q e = false≢true e
@@ -189,8 +177,7 @@ module _ (sets : ℕ → ℕ → Bool) where
   pub con_true : (a : AtomTree) (q i c : ℕ) → is_added sets a (of_con q i c) ≡ true → (q ≡ a.pred) × AddsCon a i c
   con_true a q i c e =
       let is = added_true a.pred 0 a.args q i c e in
-      let same : i ≡ is.1.place = is.1.here ∙ zero-add is.1.place in
-      (is.0, by is.1.t (ap (nth_argument a.args) same ∙ is.1.at) is.1.begun)
+      (is.0, by is.1.t (ap (nth_argument a.args) (is.1.here ∙ zero-add is.1.place) ∙ is.1.at) is.1.begun)
     where
       by : (t : Tree) → nth_argument a.args i ≡ Some t → is_begun sets t c ≡ true → AddsCon a i c
       by (variable v) at begun = inr (v, at, begun)

@@ -1,6 +1,6 @@
 -- Lists that grow at their end, and what is told of each of their items.
 use Rattle.std.proofs.Common.{◌≡◌, ℕ, zero, suc, ◌+◌, ◌<◌, ◌≤◌, ◌==◌, nat_lt, Bool, true, false, ◌&&◌, ◌||◌, List, [], ◌∷◌, ◌++◌, length, map, take, get_or, refl, sym, ap, ◌∙◌, append_assoc, Bor, ◌≢◌, eq-eqb, eqb-true, length-append, arith}
-use Rattle.std.specs.Prelude.{Option, Some, None, slice_get, is_some, option_map, unwrap_or, Result, Ok, Err, IfOk}
+use Rattle.std.specs.Prelude.{Option, Some, None, slice_get, is_some, option_map, unwrap_or, Result, IfOk}
 use Rattle.std.specs.List.{list_any, list_all}
 use Rattle.std.proofs.lemmas.List.{length-map}
 use Rattle.std.proofs.lemmas.Option.{slice_get-get_or}
@@ -16,6 +16,7 @@ use Rattle.cep_dead.specs.declared.bits.Bits.{Bits}
 use Rattle.cep_dead.specs.Sets.{has_bit}
 use Rattle.cep_dead.specs.Tables.{Possibility}
 use Rattle.cep_dead.specs.Held.{words_at, is_in_set, has_all, is_among, stands_alone, is_kept_among, is_kept, is_of_sort, can_begin}
+pub use Rattle.cep_base.proofs.Bytes.{any_map as any_mapped}
 
 pub pushed : {X A : Type 0} (at : X → A) (old : List A) (now : List X) (list : List A) (i : ℕ) (x : X) → slice_get list i ≡ Some (at x) → map at now ≡ old ++ take i list → map at (now ++ x ∷ []) ≡ old ++ take (i + 1) list
 pushed at old now list i x is e = grind (arith, map_last, append_assoc, take_next)
@@ -28,10 +29,6 @@ all_taken (x ∷ list) (suc i) within = ap (λ xs. x ∷ xs) (all_taken list i (
 
 pub item_at : {X A : Type 0} (f : X → A) (xs : List X) (i : ℕ) (x : X) → i < length xs → x ≡ get_or xs i x → slice_get (map f xs) i ≡ Some (f x)
 item_at f xs i x less is = get_mapped f xs i x (slice_get-get_or xs i x less ∙ ap Some (sym is))
-
-pub any_mapped : {X A : Type 0} (test : A → Bool) (f : X → A) (xs : List X) → list_any test (map f xs) ≡ list_any (λ x. test (f x)) xs
-any_mapped test f [] = refl
-any_mapped test f (x ∷ xs) = ap (λ b. test (f x) || b) (any_mapped test f xs)
 
 any_last : {A : Type 0} (test : A → Bool) (xs : List A) (x : A) → list_any test (xs ++ x ∷ []) ≡ (list_any test xs || test x)
 any_last test [] x = grind arith
@@ -55,18 +52,16 @@ pub sort_passed : (sort_at : ℕ → Bool) (c : ℕ) (old : ℕ → Bool) → ((
 sort_passed sort_at c old was is m = let o = was m in grind (arith, o, is)
 
 beyond_none : {A : Type 0} (xs : List A) (k : ℕ) → length xs ≤ k → slice_get xs k ≡ None
-beyond_none [] k within = refl
-beyond_none (x ∷ xs) zero within = absurd (omega arith)
 beyond_none (x ∷ xs) (suc k) within = beyond_none xs k (omega arith)
+beyond_none xs k within = grind arith
 
 pub sort_done : (cons : List Con) (sort c : ℕ) (set : ℕ → Bool) → length cons ≤ c → ((m : ℕ) → set m ≡ (nat_lt m c && is_of_sort cons sort m)) → (m : ℕ) → set m ≡ is_of_sort cons sort m
 sort_done cons sort c set done is m = grind (arith, beyond_none, ltb-false)
 
 -- one set more
 pub set_kept : (sets : List Bits) (set : Bits) (w : ℕ) → w < length sets → words_at (sets ++ set ∷ []) w ≡ words_at sets w
-set_kept [] set w less = absurd (omega arith)
-set_kept (first ∷ sets) set zero less = refl
 set_kept (first ∷ sets) set (suc w) less = set_kept sets set w (omega arith)
+set_kept sets set w less = grind arith
 
 pub set_last : (sets : List Bits) (set : Bits) → words_at (sets ++ set ∷ []) (length sets) ≡ set.words.items
 set_last [] set = refl
@@ -107,8 +102,7 @@ pub begin_alone : (signature : Signature) (has : Possibility → Bool) (kinds : 
 begin_alone signature has kinds atoms v set alone is c = rw (← alone) (is c)
 
 pub begin_typed : {E : Type 0} (signature : Signature) (has : Possibility → Bool) (kinds : List ℕ) (atoms : List AtomTree) (v : ℕ) (r : Result Bits E) → false ≡ stands_alone atoms v → v < length kinds → IfOk r (λ set. (c : ℕ) → has_bit set.words.items c ≡ is_of_sort signature.cons (get_or kinds v 0) c) → IfOk r (λ set. (c : ℕ) → has_bit set.words.items c ≡ can_begin signature has kinds atoms v c)
-begin_typed signature has kinds atoms v (Err e) alone less is = tt
-begin_typed signature has kinds atoms v (Ok set) alone less is = λ c. rw (← alone, slice_get-get_or kinds v 0 less) (is c)
+begin_typed signature has kinds atoms v r alone less is = grind (arith, slice_get-get_or)
 
 -- one set more
 pub sets_next : (signature : Signature) (has : Possibility → Bool) (kinds : List ℕ) (atoms : List AtomTree) (sets : List Bits) (set : Bits) (v : ℕ) → (length sets ≡ v) × ((w c : ℕ) → w < v → is_in_set sets w c ≡ can_begin signature has kinds atoms w c) → ((c : ℕ) → has_bit set.words.items c ≡ can_begin signature has kinds atoms v c) → (length (sets ++ set ∷ []) ≡ v + 1) × ((w c : ℕ) → w < v + 1 → is_in_set (sets ++ set ∷ []) w c ≡ can_begin signature has kinds atoms w c)

@@ -6,7 +6,7 @@ use Rattle.cep_term.specs.Tree.{AtomTree}
 use Rattle.cep_rule.specs.declared.signature.Signature.{Signature}
 use Rattle.cep_rule.specs.declared.rule.Rule.{Rule}
 use Rattle.cep_rule.specs.declared.parts.Parts.{Parts}
-use Rattle.cep_dead.specs.Tables.{Possibility, of_stage, of_pred, of_con, IsOpen, CanBegin, PremisesPass, AtomAdds}
+use Rattle.cep_dead.specs.Tables.{Possibility, IsOpen, CanBegin, PremisesPass, AtomAdds}
 use Rattle.cep_dead.specs.Rounds.{RulePasses, IsAddedByRule, IsAddedByClause, IsInRound, IsDead}
 
 pub open_later : (table later : Possibility → Type 0) → ((item : Possibility) → table item → later item) → (a : AtomTree) → IsOpen table a → IsOpen later a
@@ -16,9 +16,7 @@ pub begin_later : (table later : Possibility → Type 0) → ((item : Possibilit
 begin_later table later grows signature kinds premises v c begin = record { at_each = λ a i there has. grows _ (begin.at_each a i there has); typed = begin.typed }
 
 pub adds_later : (table later : Possibility → Type 0) → ((item : Possibility) → table item → later item) → (signature : Signature) (kinds : List ℕ) (premises : List AtomTree) (a : AtomTree) (item : Possibility) → AtomAdds signature table kinds premises a item → AtomAdds signature later kinds premises a item
-adds_later table later grows signature kinds premises a (of_stage k) adds = adds
-adds_later table later grows signature kinds premises a (of_pred p) adds = adds
-adds_later table later grows signature kinds premises a (of_con p i c) adds = grind (arith, begin_later, adds.0, adds.1)
+adds_later table later grows signature kinds premises a item adds = grind (arith, begin_later)
 
 pub pass_later : (table later : Possibility → Type 0) → ((item : Possibility) → table item → later item) → (signature : Signature) (kinds : List ℕ) (premises : List AtomTree) → PremisesPass signature table kinds premises → PremisesPass signature later kinds premises
 pass_later table later grows signature kinds premises pass = record {
@@ -32,8 +30,7 @@ module _ (program : Parts) where
   further : (n k m : ℕ) (item : Possibility) → m ≡ k + n → IsInRound program n item → IsInRound program m item
   further n zero m item e is = let same : n ≡ m = omega arith in subst (λ r. IsInRound program r item) same is
   further n (suc k) m item e is =
-      let before = further n k (k + n) item refl is in
-      let next : IsInRound program (suc (k + n)) item = inl before in
+      let next : IsInRound program (suc (k + n)) item = inl (further n k (k + n) item refl is) in
       let same : suc (k + n) ≡ m = omega arith in
       subst (λ r. IsInRound program r item) same next
 

@@ -21,9 +21,8 @@ use Rattle.cep_dead.proofs.OneWhy.{shut_among}
 
 counted : (cons : List Con) (kinds sorts : List ℕ) (args : Trees) → HaveSorts cons kinds sorts args → arguments_in args ≡ length sorts
 counted cons kinds [] none is = refl
-counted cons kinds [] (more t rest) is = absurd is
-counted cons kinds (sort ∷ sorts) none is = absurd is
 counted cons kinds (sort ∷ sorts) (more t rest) is = let others = counted cons kinds sorts rest is.1 in omega arith
+counted cons kinds sorts args is = absurd is
 
 pub typed_short : (signature : Signature) (kinds : List ℕ) (a : AtomTree) → IsSmallSignature signature → IsTyped signature kinds a → HasFewArguments a
 typed_short signature kinds a small typed = grind (arith, some_there, holds_at, counted, signature.preds, a.pred, signature.cons, a.args, small.pred_args)
@@ -47,9 +46,8 @@ pub record IsSplit {A : Type 0} (xs : List A) (i : ℕ) (x : A) : Type 0 where
   pub as_long : length (take i xs) ≡ i
 
 split_at : {A : Type 0} (xs : List A) (i : ℕ) (x : A) → slice_get xs i ≡ Some x → IsSplit xs i x
-split_at [] i x is = none_some x is
-split_at (y ∷ xs) zero x is = record { rest = xs; whole = ap (λ z. z ∷ xs) (some_same y x is); as_long = refl }
 split_at (y ∷ xs) (suc i) x is = let later = split_at xs i x is in record { rest = later.rest; whole = ap (λ l. y ∷ l) later.whole; as_long = ap suc later.as_long }
+split_at xs i x is = grind (arith, none_some, some_same)
 
 module _ (has : Possibility → Bool) where
   abbrev table : Possibility → Type 0
@@ -86,14 +84,11 @@ module _ (has : Possibility → Bool) where
 
   module _ (signature : Signature) (kinds : List ℕ) (premises : List AtomTree) where
     pub shut_stops : (o : Option ℕ) → is_some o ≡ true → MatchOption o (AllByRecursion (IsOpen table) premises) (λ place. IsFirstShut table premises (place + 1)) → ¬ PremisesPass signature table kinds premises
-    shut_stops None some told = absurd (false≢true some)
-    shut_stops (Some place) some told = λ passes. shut_among table premises (place + 1) told passes.opened
+    shut_stops o some told = grind (arith, shut_among, table)
 
     pub empty_stops : (o : Option ℕ) → is_some o ≡ true → MatchOption o ((v : ℕ) → StandsAlone premises v → (c : ℕ) × CanBegin signature table kinds premises v c) (λ v. IsFirstEmpty signature table kinds premises v) → ¬ PremisesPass signature table kinds premises
     empty_stops None some told = absurd (false≢true some)
     empty_stops (Some v) some told = λ passes. let begin = passes.possible v told.alone in told.none begin.0 begin.1
 
     pub both_pass : (o o' : Option ℕ) → is_some o ≡ false → is_some o' ≡ false → MatchOption o (AllByRecursion (IsOpen table) premises) (λ place. IsFirstShut table premises (place + 1)) → MatchOption o' ((v : ℕ) → StandsAlone premises v → (c : ℕ) × CanBegin signature table kinds premises v c) (λ v. IsFirstEmpty signature table kinds premises v) → PremisesPass signature table kinds premises
-    both_pass None None none_shut none_empty' opened possible = record { opened = opened; possible = possible }
-    both_pass None (Some v) none_shut none_empty' opened possible = absurd (true≢false none_empty')
-    both_pass (Some place) o' none_shut none_empty' opened possible = absurd (true≢false none_shut)
+    both_pass o o' none_shut none_empty' opened possible = grind arith

@@ -27,13 +27,11 @@ module _ (table : Possibility → Type 0) where
   -- two prefixes of what is open, each before what is not, are as long
   as_long : (one other : List AtomTree) (x y : AtomTree) (xs ys : List AtomTree) → one ++ x ∷ xs ≡ other ++ y ∷ ys → AllByRecursion (IsOpen table) one → AllByRecursion (IsOpen table) other → ¬ IsOpen table x → ¬ IsOpen table y → length one ≡ length other
   as_long [] [] x y xs ys e all all' shut shut' = refl
-  as_long [] (b ∷ other) x y xs ys e all all' shut shut' = absurd (shut (subst (IsOpen table) (sym (same_head x b xs (other ++ y ∷ ys) e)) all'.0))
-  as_long (a ∷ one) [] x y xs ys e all all' shut shut' = absurd (shut' (subst (IsOpen table) (same_head a y (one ++ x ∷ xs) ys e) all.0))
   as_long (a ∷ one) (b ∷ other) x y xs ys e all all' shut shut' = ap suc (as_long one other x y xs ys (same_tail a b (one ++ x ∷ xs) (other ++ y ∷ ys) e) all.1 all'.1 shut shut')
+  as_long one other x y xs ys e all all' shut shut' = grind (arith, same_head)
 
   one_place : (premises : List AtomTree) (n m : ℕ) → IsFirstShut table premises n → IsFirstShut table premises m → n ≡ m
-  one_place premises n m is is' =
-      is.placed ∙ ap (λ k. k + 1) (as_long is.before is'.before is.shut is'.shut is.rest is'.rest (sym is.whole ∙ is'.whole) is.opened is'.opened is.is_shut is'.is_shut) ∙ sym is'.placed
+  one_place premises n m is is' = cc (is.placed, as_long is.before is'.before is.shut is'.shut is.rest is'.rest (sym is.whole ∙ is'.whole) is.opened is'.opened is.is_shut is'.is_shut, is'.placed)
 
   module _ (program : Parts) (rule : Rule) where
     one_variable : (v w : ℕ) → IsFirstEmpty program.signature table rule.kinds (premises_of rule) v → IsFirstEmpty program.signature table rule.kinds (premises_of rule) w → v ≡ w
@@ -53,11 +51,10 @@ module _ (table : Possibility → Type 0) where
 
     pub same_why : (why other : DeadWhy) → IsWhy program table rule why → IsWhy program table rule other → why ≡ other
     same_why (Stage stage) (Stage stage') is is' = ap Stage (is.0 ∙ sym is'.0)
-    same_why (Stage stage) (Premise place) is is' = absurd (is.1 (subst (λ k. table (of_stage k)) (sym is.0) is'.0))
-    same_why (Stage stage) (Var v) is is' = absurd (is.1 (subst (λ k. table (of_stage k)) (sym is.0) is'.0))
     same_why (Premise place) (Stage stage) is is' = absurd (is'.1 (subst (λ k. table (of_stage k)) (sym is'.0) is.0))
     same_why (Premise place) (Premise place') is is' = ap Premise (one_place (premises_of rule) place place' is.1 is'.1)
     same_why (Premise place) (Var v) is is' = absurd (shut_among (premises_of rule) place is.1 is'.1)
     same_why (Var v) (Stage stage) is is' = absurd (is'.1 (subst (λ k. table (of_stage k)) (sym is'.0) is.0))
     same_why (Var v) (Premise place) is is' = absurd (shut_among (premises_of rule) place is'.1 is.1)
     same_why (Var v) (Var w) is is' = ap Var (one_variable v w is.2 is'.2)
+    same_why why other is is' = absurd (is.1 (subst (λ k. table (of_stage k)) (sym is.0) is'.0))

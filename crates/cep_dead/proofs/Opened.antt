@@ -1,5 +1,5 @@
 -- Instances that are open in a table: their patterns pass it, and what these add opens the instances of what they make.
-use Rattle.std.proofs.Common.{◌≡◌, ◌⊎◌, inl, inr, ℕ, zero, suc, List, [], ◌∷◌, Option, Some, None, unwrap_or, refl, sym, ap, subst, ◌∙◌}
+use Rattle.std.proofs.Common.{◌≡◌, ◌⊎◌, inl, inr, ℕ, zero, suc, List, [], ◌∷◌, Option, Some, unwrap_or, refl, sym, ap, subst, ◌∙◌, arith}
 use Rattle.std.specs.Prelude.{slice_get, IsSomeAnd}
 use Rattle.std.specs.List.{AllByRecursion}
 use Rattle.cep_base.proofs.Lists.{none_some, some_same}
@@ -11,19 +11,15 @@ use Rattle.cep_rule.specs.declared.signature.Signature.{Signature}
 use Rattle.cep_rule.specs.Typing.{HasSort, HaveSorts, IsTyped, IsValue, AreValues}
 use Rattle.cep_rule.specs.Instances.{given, full_instance, full_instances}
 use Rattle.cep_dead.specs.Tables.{Possibility, nth_argument, HasConAt, HasVarAt, IsOpen, CanBegin, PremisesPass, AtomAdds}
-
-pub from_some : {X : Type 0} (found : Option X) (P : X → Type 0) (Q : Type 0) → ((x : X) → found ≡ Some x → P x → Q) → IsSomeAnd found P → Q
-from_some None P Q f h = absurd h
-from_some (Some x) P Q f h = f x refl h
+pub use Rattle.cep_base.proofs.Options.{from_some_is as from_some}
 
 to_some : {X : Type 0} (found : Option X) (P : X → Type 0) (x : X) → found ≡ Some x → P x → IsSomeAnd found P
 to_some found P x is h = subst (λ o. IsSomeAnd o P) (sym is) h
 
 -- the argument of an instance is the instance of the argument
 instance_at : (values : Values) (args : Trees) (i : ℕ) (t : Tree) → nth_argument args i ≡ Some t → nth_argument (argument_instances values args) i ≡ Some (term_instance values t)
-instance_at values none i t is = none_some t is
-instance_at values (more u rest) zero t is = ap (λ x. Some (term_instance values x)) (some_same u t is)
 instance_at values (more u rest) (suc i) t is = instance_at values rest i t is
+instance_at values args i t is = grind (arith, none_some, some_same)
 
 record ArgumentOf (values : Values) (args : Trees) (i : ℕ) (u : Tree) : Type 0 where
   from : Tree
@@ -31,11 +27,8 @@ record ArgumentOf (values : Values) (args : Trees) (i : ℕ) (u : Tree) : Type 0
   same : term_instance values from ≡ u
 
 argument_of : (values : Values) (args : Trees) (i : ℕ) (u : Tree) → nth_argument (argument_instances values args) i ≡ Some u → ArgumentOf values args i u
-argument_of values none i u is = none_some u is
-argument_of values (more t rest) zero u is = record { from = t; there = refl; same = some_same _ _ is }
-argument_of values (more t rest) (suc i) u is =
-    let later = argument_of values rest i u is in
-    record { from = later.from; there = later.there; same = later.same }
+argument_of values (more t rest) (suc i) u is = grind (arith, argument_of values rest i u is)
+argument_of values args i u is = grind (arith, none_some, some_same)
 
 -- a pattern is open where an instance is
 pattern_open : (table : Possibility → Type 0) (values : List Tree) (a : AtomTree) → IsOpen table (full_instance values a) → IsOpen table a
@@ -75,10 +68,8 @@ begins_with cons kinds values v sort (node c args) kind is value = record {
 }
 
 value_at : (cons : List Con) (kinds : List ℕ) (values : List Tree) (v sort : ℕ) → AreValues cons kinds values → slice_get kinds v ≡ Some sort → (t : Tree) × ((value_of (given values) v ≡ Some t) × IsValue cons sort t)
-value_at cons [] values v sort are is = none_some sort is
-value_at cons (kind ∷ kinds) [] v sort are is = absurd are
-value_at cons (kind ∷ kinds) (t ∷ values) zero sort are is = (t, (refl, subst (λ s. IsValue cons s t) (some_same kind sort is) are.0))
 value_at cons (kind ∷ kinds) (t ∷ values) (suc v) sort are is = value_at cons kinds values v sort are.1 is
+value_at cons kinds values v sort are is = grind (arith, none_some, some_same)
 
 module _ (signature : Signature) (table : Possibility → Type 0) (kinds : List ℕ) (values : List Tree) (premises : List AtomTree) (are : AreValues signature.cons kinds values) (typed : AllByRecursion (IsTyped signature kinds) premises) (opened : AllByRecursion (IsOpen table) (full_instances values premises)) where
   begins : (a : AtomTree) (i v : ℕ) → IsTyped signature kinds a → HasVarAt a i v → Begins signature.cons kinds values v

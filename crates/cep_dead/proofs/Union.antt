@@ -6,7 +6,7 @@ use Rattle.cep_base.proofs.Elements.{all_at, all_of, contains_none, contains_fir
 use Rattle.cep_term.specs.Tree.{Tree, Trees, AtomTree, variable, node, none, more}
 use Rattle.cep_rule.specs.declared.rule.Rule.{Rule}
 use Rattle.cep_rule.specs.declared.parts.Parts.{Parts}
-use Rattle.cep_dead.specs.Tables.{Possibility, of_stage, of_pred, of_con, nth_argument, HasVarAt, IsOpen, CanBegin, PremisesPass, AtomAdds}
+use Rattle.cep_dead.specs.Tables.{Possibility, of_con, nth_argument, HasVarAt, IsOpen, CanBegin, PremisesPass, AtomAdds}
 use Rattle.cep_dead.specs.Rounds.{premises_of, RulePasses, IsMade, IsInRound, IsDead, IsInSomeRound, IsClosedTable}
 use Rattle.cep_dead.proofs.Growing.{open_later, begin_later, pass_later, adds_later, later_item, rule_later, by_rule_later, by_clause_later}
 
@@ -136,9 +136,7 @@ module _ (program : Parts) where
             (all.0, (λ i v has. all.1 i (variable v) has v refl))
 
     adds_once : (a : AtomTree) (item : Possibility) → AtomAdds program.signature all_rounds kinds premises a item → (n : ℕ) × AtomAdds program.signature (in_round n) kinds premises a item
-    adds_once a (of_stage k) adds = (0, adds)
-    adds_once a (of_pred p) adds = (0, adds)
-    adds_once a (of_con p i c) adds = grind (arith, begin_once, adds.0, adds.1)
+    adds_once a item adds = grind (arith, begin_once)
 
   rule_once : (rule : Rule) → RulePasses program all_rounds rule → (n : ℕ) × RulePasses program (in_round n) rule
   rule_once rule passes =
