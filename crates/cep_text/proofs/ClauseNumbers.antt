@@ -5,6 +5,7 @@ use Rattle.std.proofs.lemmas.Fmt.{decimal_injective}
 use Rattle.std.proofs.lemmas.Slice.Eq.{bytes_eq-Decides}
 use Rattle.cep_text.specs.Reading.{numbered_by}
 use Rattle.cep_text.proofs.Numbers.{bytes_apart, some_is}
+use Rattle.cep_base.proofs.Bytes.{bytes_apart as apart}
 
 pub numbered_none : (most : ℕ) (word : List ℕ) → ((n : ℕ) → n < most → word ≢ decimal (suc n)) → numbered_by most word ≡ None
 unfolding numbered_by
@@ -15,9 +16,6 @@ numbered_none (suc place) word none =
 -- the word is the decimal of another number
 pub numbered_other : (most number : ℕ) (word : List ℕ) → word ≡ decimal number → number < 2 ^ 32 → most < 2 ^ 32 → ((n : ℕ) → n < most → number ≢ suc n) → numbered_by most word ≡ None
 numbered_other most number word is short few other = numbered_none most word (λ n below e. other n below (decimal_injective number (suc n) (omega arith) (omega arith) (sym is ∙ e)))
-
-apart : (a b : List ℕ) → bytes_eq a b ≡ false → a ≢ b
-apart a b t e = let s = (bytes_eq-Decides a b).1 e in absurd cc
 
 pub numbered_again : (most n : ℕ) (word : List ℕ) → most < 2 ^ 32 → n < most → word ≡ decimal (suc n) → numbered_by most word ≡ Some n
 unfolding numbered_by

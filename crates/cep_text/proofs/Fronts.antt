@@ -37,5 +37,4 @@ enclosed_begun r signature tree c args seen con name old opened named new t rest
     let inside : IsBegun opened (con.name ++ text) new = begun_then opened con.name text named new (then_name ∙ ap (λ bytes. opened ++ bytes) spelled) behind in
     let whole : IsBegun old (40 ∷ [] ++ ((con.name ++ text) ++ 41 ∷ [])) new =
     begun_then old (40 ∷ []) ((con.name ++ text) ++ 41 ∷ []) opened new first (begun_first opened (con.name ++ text) (41 ∷ []) new inside) in
-    let shown : IsBegun old (term_text signature (node c (more t rest))) new = rw found whole in
-    on_err r _ (subst (λ other. IsBegun old (term_text signature other) new) (sym (is ∙ ap (λ list. node c list) some)) shown)
+    on_err r _ (subst (λ other. IsBegun old (term_text signature other) new) (sym (is ∙ ap (λ list. node c list) some)) (rw found whole))

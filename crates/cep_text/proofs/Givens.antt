@@ -1,5 +1,5 @@
 -- What the variables are given, one after another.
-use Rattle.std.proofs.Common.{◌≡◌, ℕ, ◌+◌, suc, zero, List, [], ◌∷◌, ◌++◌, take, append_assoc, refl, append-nil, arith}
+use Rattle.std.proofs.Common.{◌≡◌, ℕ, ◌+◌, suc, List, ◌∷◌, ◌++◌, take, append_assoc, append-nil, arith}
 use Rattle.std.specs.Prelude.{Result, OnErr, Some, slice_get}
 use Rattle.cep_term.specs.Tree.{Tree}
 use Rattle.cep_rule.specs.declared.signature.Signature.{Signature}
@@ -16,18 +16,14 @@ first_given signature names values i = all_given_text signature (take i names) (
 step_by : (signature : Signature) (i : ℕ) (names : List (List ℕ)) (values : List Tree) (name : List ℕ) (value : Tree)
     → slice_get names i ≡ Some name → slice_get values i ≡ Some value
     → first_given signature names values (suc i) ≡ first_given signature names values i ++ given_text signature name value
-step_by signature i [] values name value e f = absurd cc
-step_by signature i (n ∷ names) [] name value e f = absurd cc
-step_by signature zero (n ∷ names) (v ∷ values) name value e f = grind (arith, append-nil)
 step_by signature (suc i) (n ∷ names) (v ∷ values) name value e f = grind (arith, append_assoc, step_by signature i names values name value e f)
+step_by signature i names values name value e f = grind (arith, append-nil)
 
 -- and then the rest
 rest_by : (signature : Signature) (i : ℕ) (names : List (List ℕ)) (values : List Tree)
     → (rest : List ℕ) × (all_given_text signature names values ≡ first_given signature names values i ++ rest)
-rest_by signature zero names values = (all_given_text signature names values, refl)
-rest_by signature (suc i) [] values = ([], refl)
-rest_by signature (suc i) (n ∷ names) [] = ([], refl)
 rest_by signature (suc i) (n ∷ names) (v ∷ values) = grind (arith, append_assoc, rest_by signature i names values)
+rest_by signature i names values = grind arith
 
 pub given_step : (signature : Signature) (i : ℕ) (names : List (List ℕ)) (values : List Tree) (name : List ℕ) (value : Tree) (old mid new : List ℕ)
     → slice_get names i ≡ Some name → slice_get values i ≡ Some value

@@ -69,9 +69,8 @@ AreRead signature value (kind ∷ kinds) [] = ⊥
 AreRead signature value (kind ∷ kinds) (t ∷ values) = ((rest : List ℕ) → IsApart rest → value kind (term_text signature t ++ rest) ≡ Some (t, rest)) × AreRead signature value kinds values
 
 pub givens_apart : (signature : Signature) (names : List (List ℕ)) (values : List Tree) (rest : List ℕ) → IsApart rest → IsApart (all_given_text signature names values ++ rest)
-givens_apart signature [] values rest apart = apart
-givens_apart signature (name ∷ names) [] rest apart = apart
 givens_apart signature (name ∷ names) (t ∷ values) rest apart = refl
+givens_apart signature names values rest apart = apart
 
 given_again : (signature : Signature) (value : Reader Tree) (name : List ℕ) (t : Tree) (rest : List ℕ) → value (term_text signature t ++ rest) ≡ Some (t, rest) → given_at value name (codes " " ++ (name ++ (codes "=" ++ (term_text signature t ++ rest)))) ≡ Some (t, rest)
 unfolding given_at
@@ -96,10 +95,8 @@ givens_again signature value (name ∷ names) (kind ∷ kinds) before (t ∷ val
 
 -- small values are read
 pub small_read : (signature : Signature) → AreNames (con_names signature.cons) → (kinds : List ℕ) (values : List Tree) → AreValues signature.cons kinds values → AllByRecursion IsSmallTerm values → AreRead signature (small_at signature.cons) kinds values
-small_read signature names [] [] typed small = tt
-small_read signature names [] (t ∷ values) typed small = absurd typed
-small_read signature names (kind ∷ kinds) [] typed small = absurd typed
 small_read signature names (kind ∷ kinds) (t ∷ values) typed small = grind (arith, small_again, typed.0, small.0, small_read signature names kinds values typed.1 small.1, typed.1, small.1)
+small_read signature names kinds values typed small = grind arith
 
 -- how many levels any of the values has at most
 abbrev pub levels_of : List Tree → ℕ
@@ -108,10 +105,5 @@ levels_of (t ∷ values) = term_depth t + levels_of values
 
 -- all values are read with that many levels
 pub all_read : (signature : Signature) → AreNames (con_names signature.cons) → (depth : ℕ) (kinds : List ℕ) (values : List Tree) → AreValues signature.cons kinds values → levels_of values ≤ depth → AreRead signature (value_at signature.cons depth) kinds values
-all_read signature names depth [] [] typed low = tt
-all_read signature names depth [] (t ∷ values) typed low = absurd typed
-all_read signature names depth (kind ∷ kinds) [] typed low = absurd typed
-all_read signature names depth (kind ∷ kinds) (t ∷ values) typed low =
-    let one : term_depth t ≤ depth = omega arith in
-    let others : levels_of values ≤ depth = omega arith in
-    ((λ rest apart. value_again signature names t depth kind rest typed.0.ground typed.0.typed one apart), all_read signature names depth kinds values typed.1 others)
+all_read signature names depth (kind ∷ kinds) (t ∷ values) typed low = ((λ rest apart. value_again signature names t depth kind rest typed.0.ground typed.0.typed (omega arith) apart), all_read signature names depth kinds values typed.1 (omega arith))
+all_read signature names depth kinds values typed low = grind arith

@@ -1,5 +1,5 @@
 -- Names at the front of a text.
-use Rattle.std.proofs.Common.{◌≡◌, ℕ, Bool, true, false, cond, eqb, ◌&&◌, ◌||◌, nat_le, List, [], ◌∷◌, ◌++◌, length, slice_get, codes, Option, Some, None, refl, sym, ap, subst, ◌∙◌, arith, take_at, drop_at, take-append-drop}
+use Rattle.std.proofs.Common.{◌≡◌, ℕ, Bool, true, cond, eqb, ◌&&◌, ◌||◌, nat_le, List, [], ◌∷◌, ◌++◌, length, slice_get, codes, Option, Some, None, refl, sym, ap, subst, ◌∙◌, arith, take_at, drop_at, take-append-drop}
 use Rattle.std.specs.Prelude.{IsTrue, ◌==◌}
 use Rattle.std.specs.List.{AllByRecursion}
 use Rattle.std.specs.Char.{is_ascii_lowercase}
@@ -32,15 +32,13 @@ pub behind_is : (name rest : List ℕ) → AreNameBytes name → IsApart rest �
 behind_is name rest all apart = rw (name_whole name rest all apart) (drop_at name rest (length name) refl)
 
 among_five : (a b c d e : Bool) → b ≡ true → (a || b || c || d || e) ≡ true
-among_five true b c d e t = refl
-among_five false b c d e t = rw t refl
+among_five a b c d e t = grind arith
 
 lower_goes_on : (byte : ℕ) → is_ascii_lowercase byte ≡ true → is_name_byte byte ≡ true
 lower_goes_on byte t = among_five (nat_le 48 byte && nat_le byte 57 || nat_le 65 byte && nat_le byte 90) (is_ascii_lowercase byte) (byte == 95) (byte == 47) (byte == 39) t
 
 no_letter : (byte : ℕ) (same : Bool) (bytes : List ℕ) → eqb 40 byte ≡ same → is_ascii_lowercase byte ≡ true → cond same (Some bytes) None ≡ None
-no_letter byte true bytes e small = let is : 40 ≡ byte = eqb-true 40 byte e in let none : is_ascii_lowercase 40 ≡ true = subst (λ b. is_ascii_lowercase b ≡ true) (sym is) small in absurd cc
-no_letter byte false bytes e small = refl
+no_letter byte same bytes e small = grind (arith, eqb-true)
 
 pub name_bytes : (name : List ℕ) → IsName name → AreNameBytes name
 name_bytes name is = of_word name is.word where
@@ -66,12 +64,10 @@ pub record ConFound (cons : List Con) (sort : ℕ) (bytes : List ℕ) (number : 
 
 sort_found : (sort number : ℕ) (found : Option Con) (number' : ℕ) (kinds : List ℕ) → of_sort sort number found ≡ Some (number', kinds)
     → (con : Con) × (found ≡ Some con) × (number ≡ number') × (con.sort ≡ sort) × (con.args ≡ kinds)
-sort_found sort number None number' kinds e = absurd cc
-sort_found sort number (Some con) number' kinds e = grind (arith, guard_some, eqb-true, con.args, con.sort)
+sort_found sort number found number' kinds e = grind (arith, guard_some, eqb-true)
 
 named : (found : Option Con) (con : Con) (name : List ℕ) → found ≡ Some con → option_map (λ con. con.name) found ≡ Some name → con.name ≡ name
-named None con name e there = absurd cc
-named (Some other) con name e there = let p : other ≡ con = cc in ap (λ c. c.name) (sym p) ∙ some_is other.name name there
+named found con name e there = grind (arith, some_is)
 
 -- a constructor that is read stands in the text by its name
 pub con_found : (cons : List Con) (sort : ℕ) (bytes : List ℕ) (number : ℕ) (kinds rest : List ℕ) → con_at cons sort bytes ≡ Some ((number, kinds), rest) → ConFound cons sort bytes number kinds rest
@@ -112,12 +108,10 @@ pub record PredFound (preds : List PredDecl) (bytes : List ℕ) (number : ℕ) (
 
 head_found : (number : ℕ) (found : Option PredDecl) (number' : ℕ) (kinds : List ℕ) → pred_head number found ≡ Some (number', kinds)
     → (pred : PredDecl) × (found ≡ Some pred) × (number ≡ number') × (pred.args ≡ kinds)
-head_found number None number' kinds e = absurd cc
-head_found number (Some pred) number' kinds e = grind (arith, some_is, pred.args)
+head_found number found number' kinds e = grind (arith, some_is)
 
 named_pred : (found : Option PredDecl) (pred : PredDecl) (name : List ℕ) → found ≡ Some pred → option_map (λ pred. pred.name) found ≡ Some name → pred.name ≡ name
-named_pred None pred name e there = absurd cc
-named_pred (Some other) pred name e there = let p : other ≡ pred = cc in ap (λ c. c.name) (sym p) ∙ some_is other.name name there
+named_pred found pred name e there = grind (arith, some_is)
 
 pub pred_found : (preds : List PredDecl) (bytes : List ℕ) (number : ℕ) (kinds rest : List ℕ) → pred_at preds bytes ≡ Some ((number, kinds), rest) → PredFound preds bytes number kinds rest
 unfolding pred_at

@@ -1,5 +1,5 @@
 -- Words at the front of a list.
-use Rattle.std.proofs.Common.{◌≡◌, ◌≢◌, ℕ, Bool, true, false, cond, eqb, List, [], ◌∷◌, ◌++◌, Option, Some, None, MatchOption, refl, ap, ◌∙◌, Bor}
+use Rattle.std.proofs.Common.{◌≡◌, ◌≢◌, ℕ, Bool, cond, eqb, List, [], ◌∷◌, ◌++◌, Option, Some, None, MatchOption, refl, ap, ◌∙◌, Bor, arith}
 use Rattle.std.proofs.lemmas.Bool.{eqb-true, eq-eqb}
 use Rattle.cep_text.specs.Reading.{literal_at}
 
@@ -10,12 +10,10 @@ literal_again (letter ∷ word) rest = rw (eq-eqb letter letter refl) (literal_a
 
 -- one byte of a word, after the test whether it is there
 found_byte : (letter byte : ℕ) (same : Bool) → eqb letter byte ≡ same → (word bytes rest : List ℕ) → (literal_at word bytes ≡ Some rest → bytes ≡ word ++ rest) → cond same (literal_at word bytes) None ≡ Some rest → byte ∷ bytes ≡ (letter ∷ word) ++ rest
-found_byte letter byte true t word bytes rest more e = let p = eqb-true letter byte t in let q = more e in cc
-found_byte letter byte false t word bytes rest more e = absurd cc
+found_byte letter byte same t word bytes rest more e = grind (arith, eqb-true)
 
 none_from : (r : Option (List ℕ)) → ((rest : List ℕ) → r ≡ Some rest → ⊥) → r ≡ None
-none_from None h = refl
-none_from (Some rest) h = absurd (h rest refl)
+none_from r h = grind arith
 
 pub literal_found : (word bytes rest : List ℕ) → literal_at word bytes ≡ Some rest → bytes ≡ word ++ rest
 unfolding literal_at

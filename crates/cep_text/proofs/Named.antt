@@ -1,6 +1,6 @@
 -- The constructors of a well-typed ground term are declared.
-use Rattle.std.proofs.Common.{◌≡◌, ℕ, List, [], ◌∷◌}
-use Rattle.std.specs.Prelude.{Option, None, Some, slice_get, IsSomeAnd}
+use Rattle.std.proofs.Common.{◌≡◌, ℕ, List, [], ◌∷◌, arith}
+use Rattle.std.specs.Prelude.{Option, slice_get, IsSomeAnd}
 use Rattle.cep_term.specs.Tree.{Tree, Trees, variable, node, none, more, IsGround, AreGround}
 use Rattle.cep_rule.specs.declared.signature.Con.{Con}
 use Rattle.cep_rule.specs.declared.signature.PredDecl.{PredDecl}
@@ -8,13 +8,11 @@ use Rattle.cep_rule.specs.Typing.{HasSort, HaveSorts}
 use Rattle.cep_text.specs.Texts.{HasNames, HaveNames}
 
 is_there : {A : Type 0} (found : Option A) (P : A → Type 0) → IsSomeAnd found P → IsSomeAnd found (λ _. Unit {0})
-is_there (Some x) P p = tt
-is_there None P p = p
+is_there found P p = grind arith
 
 -- the types that the constructor declares for its arguments
 sorts_for : (cons : List Con) (sort : ℕ) (args : Trees) (found : Option Con) → IsSomeAnd found (λ con. (con.sort ≡ sort) × HaveSorts cons [] con.args args) → (sorts : List ℕ) × HaveSorts cons [] sorts args
-sorts_for cons sort args (Some con) typed = (con.args, typed.1)
-sorts_for cons sort args None typed = absurd typed
+sorts_for cons sort args found typed = grind arith
 
 mutual
   pub has_names : (cons : List Con) (sort : ℕ) (t : Tree) → IsGround t → HasSort cons [] sort t → HasNames cons t
@@ -31,5 +29,4 @@ mutual
 
 -- so are those of an atom
 pub atom_names : (cons : List Con) (args : Trees) (found : Option PredDecl) → AreGround args → IsSomeAnd found (λ pred. HaveSorts cons [] pred.args args) → HaveNames cons args
-atom_names cons args (Some pred) g typed = have_names cons pred.args args g typed
-atom_names cons args None g typed = absurd typed
+atom_names cons args found g typed = grind (arith, have_names)

@@ -1,43 +1,26 @@
 -- The number of a name among names.
 use Rattle.std.proofs.Common.{◌≡◌, ◌≢◌, ℕ, zero, suc, ◌<◌, Bool, true, false, cond, List, [], ◌∷◌, length, take, map, slice_get, Option, Some, None, refl, ap, subst, ◌∙◌, bytes_eq, arith}
-use Rattle.std.specs.List.{AllByRecursion}
 use Rattle.std.specs.Option.{option_map}
 use Rattle.std.proofs.lemmas.List.{length-map}
 use Rattle.std.proofs.lemmas.Option.{slice_get-map, slice_get_within}
 use Rattle.std.proofs.lemmas.Slice.Eq.{bytes_eq-Decides}
 use Rattle.cep_rule.specs.Names.{AllDiffer}
 use Rattle.cep_text.specs.Reading.{◌>>=◌, number_among}
+pub use Rattle.cep_base.proofs.Lists.{some_same as some_is, holds_at as all_at}
+pub use Rattle.cep_base.proofs.Bytes.{bytes_differ as bytes_apart}
 
 -- what follows from a step that did not fail
 pub by_bind : {A B P : Type 0} (r : Option A) (f : A → Option B) (y : B) → (r >>= f) ≡ Some y → ((x : A) → r ≡ Some x → f x ≡ Some y → P) → P
-by_bind None f y e next = absurd cc
-by_bind (Some x) f y e next = next x refl e
-
-pub some_is : {A : Type 0} (x y : A) → Some x ≡ Some y → x ≡ y
-some_is x y e = cc
+by_bind r f y e next = grind arith
 
 pub guard_some : {A : Type 0} (b : Bool) (x y : A) → cond b (Some x) None ≡ Some y → (b ≡ true) × (x ≡ y)
-guard_some true x y e = (refl, cc)
-guard_some false x y e = absurd cc
+guard_some b x y e = grind arith
 
 pub none_is : {A : Type 0} (y : A) (r : Option A) → r ≡ None → r ≡ Some y → ⊥
-none_is y None a b = absurd cc
-none_is y (Some x) a b = absurd cc
-
--- what holds of each item holds of the one at a place
-pub all_at : {X : Type 0} (P : X → Type 0) (xs : List X) (i : ℕ) (x : X) → AllByRecursion P xs → slice_get xs i ≡ Some x → P x
-all_at P [] i x all e = absurd cc
-all_at P (y ∷ xs) zero x all e = let p : y ≡ x = cc in subst P p all.0
-all_at P (y ∷ xs) (suc i) x all e = all_at P xs i x all.1 e
+none_is y r a b = absurd cc
 
 pub bytes_same : (name : List ℕ) → bytes_eq name name ≡ true
 bytes_same name = (bytes_eq-Decides name name).1 refl
-
-pub bytes_apart : (a b : List ℕ) → a ≢ b → bytes_eq a b ≡ false
-bytes_apart a b apart = cases (bytes_eq a b) refl where
-  cases : (same : Bool) → bytes_eq a b ≡ same → bytes_eq a b ≡ false
-  cases true t = absurd (apart ((bytes_eq-Decides a b).0 t))
-  cases false t = t
 
 -- no name before the place is this one
 abbrev pub IsNotBefore : ℕ → List (List ℕ) → List ℕ → Type 0
@@ -45,9 +28,7 @@ IsNotBefore i names name = number_among (take i names) name ≡ None
 
 -- of the first name and the rest neither is this one
 pub first_apart : (same : Bool) (rest : Option ℕ) → cond same (Some zero) (rest >>= λ number. Some (suc number)) ≡ None → (same ≡ false) × (rest ≡ None)
-first_apart true rest e = absurd cc
-first_apart false None e = (refl, refl)
-first_apart false (Some number) e = absurd cc
+first_apart same rest e = grind arith
 
 -- the same where each name is of an item
 pub item_name : {X : Type 0} (name_of : X → List ℕ) (items : List X) (i : ℕ) (item : X) → slice_get items i ≡ Some item → slice_get (map name_of items) i ≡ Some (name_of item)
@@ -72,9 +53,7 @@ number_is (other ∷ names) name i e = cases (bytes_eq other name) refl e (numbe
   cases false t e more = grind (arith, by_bind, some_is)
 
 pub number_within : {X : Type 0} (name_of : X → List ℕ) (items : List X) (name : List ℕ) (i : ℕ) → number_among (map name_of items) name ≡ Some i → i < length items
-number_within name_of items name i e =
-    let within = slice_get_within (map name_of items) i name (number_is (map name_of items) name i e) in
-    omega (arith, within, length-map items name_of)
+number_within name_of items name i e = omega (arith, slice_get_within (map name_of items) i name (number_is (map name_of items) name i e), length-map items name_of)
 
 -- a name without a number stands nowhere
 pub not_among : (names : List (List ℕ)) (name : List ℕ) (i : ℕ) → number_among names name ≡ None → slice_get names i ≡ Some name → ⊥

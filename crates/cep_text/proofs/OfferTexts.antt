@@ -1,5 +1,5 @@
 -- Whole texts of offers.
-use Rattle.std.proofs.Common.{◌≡◌, ℕ, List, [], ◌++◌, length, take-append-drop, slice_get, Option, Some, None, IsSomeAnd, refl, sym, ap, subst, ◌∙◌, append-nil}
+use Rattle.std.proofs.Common.{◌≡◌, ℕ, List, [], ◌++◌, length, take-append-drop, slice_get, Option, Some, None, IsSomeAnd, refl, sym, ap, subst, ◌∙◌, append-nil, arith}
 use Rattle.std.specs.List.{AllByRecursion}
 use Rattle.std.specs.Option.{option_map}
 use Rattle.std.proofs.lemmas.Option.{slice_get-map}
@@ -25,8 +25,7 @@ pub record RuleFound (rules : List Rule) (bytes : List ℕ) (number : ℕ) (rule
   pub text : bytes ≡ rule.name ++ rest
 
 named_rule : (found : Option Rule) (rule : Rule) (name : List ℕ) → found ≡ Some rule → option_map (λ rule. rule.name) found ≡ Some name → rule.name ≡ name
-named_rule None rule name e there = absurd cc
-named_rule (Some other) rule name e there = let p : other ≡ rule = cc in ap (λ r. r.name) (sym p) ∙ some_is other.name name there
+named_rule found rule name e there = grind (arith, some_is)
 
 rule_found : (rules : List Rule) (bytes : List ℕ) (number : ℕ) (rule : Rule) (rest : List ℕ) → rule_at rules bytes ≡ Some ((number, rule), rest) → RuleFound rules bytes number rule rest
 unfolding rule_at
@@ -49,8 +48,7 @@ rule_again rules number rule rest names there apart =
     rw (front_is rule.name rest letters apart, number_found (rule_names rules) number rule.name names.differ named_there, there, behind_is rule.name rest letters apart) refl
 
 is_of : (program : Parts) (values : List Tree) (found : Option Rule) (rule : Rule) → found ≡ Some rule → AreValues program.signature.cons rule.kinds values → IsSomeAnd found (λ rule. AreValues program.signature.cons rule.kinds values)
-is_of program values None rule e typed = absurd cc
-is_of program values (Some other) rule e typed = let p : rule ≡ other = cc in subst (λ (r : Rule). AreValues program.signature.cons r.kinds values) p typed
+is_of program values found rule e typed = grind arith
 
 -- the rule of an offer
 pub record RuleOf (program : Parts) (offer : Offer) : Type 0 where
@@ -59,8 +57,7 @@ pub record RuleOf (program : Parts) (offer : Offer) : Type 0 where
   pub typed : AreValues program.signature.cons rule.kinds offer.values
 
 find_of : (program : Parts) (offer : Offer) (found : Option Rule) → slice_get program.rules offer.rule ≡ found → IsSomeAnd found (λ rule. AreValues program.signature.cons rule.kinds offer.values) → RuleOf program offer
-find_of program offer None e typed = absurd typed
-find_of program offer (Some rule) e typed = record { rule = rule; numbered = e; typed = typed }
+find_of program offer found e typed = grind arith
 
 pub rule_of : (program : Parts) (offer : Offer) → IsOfferOf program offer → RuleOf program offer
 rule_of program offer is = find_of program offer (slice_get program.rules offer.rule) refl is
@@ -105,8 +102,7 @@ read_by program value keeps offer of read =
 
 -- the text of an offer is read as that offer
 pub offer_again : (program : Parts) (value : ℕ → Reader Tree) → IsProgram program → (offer : Offer) (of : RuleOf program offer) → AreRead program.signature value of.rule.kinds offer.values → offer_read program value (offer_text program offer) ≡ Some offer
-offer_again program value keeps offer of read =
-    ap (offer_read program value) (sym (text_by program offer.rule of.rule offer.values of.numbered)) ∙ read_by program value keeps offer of read
+offer_again program value keeps offer of read = cc (text_by program offer.rule of.rule offer.values of.numbered, read_by program value keeps offer of read)
 
 pub offer_none : (program : Parts) (bytes : List ℕ) → IsProgram program → offer_read program (small_at program.signature.cons) bytes ≡ None → (offer : Offer) → IsOfferText program bytes offer → ⊥
 offer_none program bytes keeps e offer is =

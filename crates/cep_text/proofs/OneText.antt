@@ -1,6 +1,6 @@
 -- No text is the text of two values.
 use Rattle.std.proofs.Common.{◌≡◌, ℕ, ◌+◌, ◌≤◌, List, [], ◌++◌, slice_get, codes, Option, Some, None, refl, sym, ap, subst, ◌∙◌, arith, append-nil, append_assoc}
-use Rattle.cep_term.specs.Tree.{Tree, Trees, AtomTree, variable, node, none, more, IsGround, AreGround, term_depth, argument_depth}
+use Rattle.cep_term.specs.Tree.{Tree, Trees, AtomTree, node, none, more, IsGround, AreGround, term_depth, argument_depth}
 use Rattle.cep_rule.specs.declared.signature.Con.{Con}
 use Rattle.cep_rule.specs.declared.signature.Signature.{Signature}
 use Rattle.cep_rule.specs.Names.{IsName, AreNames}
@@ -61,14 +61,13 @@ first_is signature names number (more t others) con there =
 -- ground terms of one text are of one type
 one_sort : (signature : Signature) (one other : Tree) (sort sort' : ℕ) → AreNames (con_names signature.cons) → IsGround one → IsGround other → HasSort signature.cons [] sort one → HasSort signature.cons [] sort' other
     → term_text signature one ≡ term_text signature other → sort' ≡ sort
-one_sort signature (variable v) other sort sort' names a b typed typed' e = absurd a
-one_sort signature (node c args) (variable v) sort sort' names a b typed typed' e = absurd b
 one_sort signature (node c args) (node d others) sort sort' names a b typed typed' e =
     let of = con_of signature.cons sort c args (slice_get signature.cons c) refl typed in
     let of' = con_of signature.cons sort' d others (slice_get signature.cons d) refl typed' in
     let same = one_read (first_number signature) (term_text signature (node c args)) (term_text signature (node d others)) c d e (first_is signature names c args of.con of.numbered) (first_is signature names d others of'.con of'.numbered) in
     let con = one_read (slice_get signature.cons) c d of.con of'.con same of.numbered of'.numbered in
     sym of'.of_type ∙ ap (λ con. con.sort) (sym con) ∙ of.of_type
+one_sort signature one other sort sort' names a b typed typed' e = grind arith
 
 pub one_ground_term : (program : Parts) (one other : Tree) → IsProgram program → IsGroundTerm program.signature one → IsGroundTerm program.signature other → term_text program.signature one ≡ term_text program.signature other → one ≡ other
 one_ground_term program one other keeps a b e =
@@ -82,11 +81,10 @@ front_atom signature depth bytes = pred_at signature.preds bytes >>= λ pred. (a
 atom_again : (signature : Signature) (depth : ℕ) → AreNames (con_names signature.cons) → AreNames (pred_names signature.preds) → (a : AtomTree) (of : PredOf signature a) → AreGround a.args → argument_depth a.args ≤ depth → front_atom signature depth (atom_text signature a) ≡ Some a
 atom_again signature depth cons preds a of known low =
     let args = args_text signature a.args in
-    let apart : IsApart args = subst IsApart (append-nil args) (args_apart signature a.args [] refl) in
     let again : arguments_at (value_at signature.cons depth) of.pred.args args ≡ Some (a.args, []) =
     ap (arguments_at (value_at signature.cons depth) of.pred.args) (sym (append-nil args)) ∙ arguments_again signature cons a.args depth of.pred.args [] known of.typed low refl in
     ap (λ found. front_atom signature depth (pred_name found ++ args)) of.numbered
-    ∙ rw (pred_again signature.preds a.pred of.pred args preds of.numbered apart, again) refl
+    ∙ rw (pred_again signature.preds a.pred of.pred args preds of.numbered (subst IsApart (append-nil args) (args_apart signature a.args [] refl)), again) refl
 
 pub one_atom : (program : Parts) (one other : AtomTree) → IsProgram program → IsTypedGround program.signature one → IsTypedGround program.signature other → atom_text program.signature one ≡ atom_text program.signature other → one ≡ other
 one_atom program one other keeps a b e =

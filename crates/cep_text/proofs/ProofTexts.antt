@@ -21,8 +21,7 @@ use Rattle.cep_text.proofs.ProofsAgain.{NodeRead, IsRead, AllAreRead, proof_agai
 node_read : (program : Parts) (value : ℕ → Reader Tree) (number : ℕ) (values : List Tree) (subs : ProofTrees) (found : Option ClauseTree) → slice_get program.clauses number ≡ found
     → ((kinds : List ℕ) → AreValues program.signature.cons kinds values → AreRead program.signature value kinds values)
     → IsSomeAnd found (λ clause. AreValues program.signature.cons clause.kinds values) → IsSomeAnd found (λ clause. AreAsMany subs clause.goals) → NodeRead program value number values subs
-node_read program value number values subs None e read typed many = absurd typed
-node_read program value number values subs (Some clause) e read typed many = record { clause = clause; numbered = e; read = read clause.kinds typed; many = many }
+node_read program value number values subs found e read typed many = grind arith
 
 -- small values are read
 mutual

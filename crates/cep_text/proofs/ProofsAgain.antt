@@ -1,5 +1,5 @@
 -- The text of a derivation is read as that derivation.
-use Rattle.std.proofs.Common.{◌≡◌, ℕ, suc, ◌+◌, ◌-◌, ◌<◌, ◌≤◌, ◌^◌, Bool, true, false, ◌&&◌, ◌||◌, nat_le, List, [], ◌∷◌, ◌++◌, length, slice_get, codes, Some, refl, ap, ◌∙◌, arith, append_assoc}
+use Rattle.std.proofs.Common.{◌≡◌, ℕ, suc, ◌+◌, ◌-◌, ◌<◌, ◌≤◌, ◌^◌, Bool, true, ◌&&◌, ◌||◌, nat_le, List, [], ◌∷◌, ◌++◌, length, slice_get, codes, Some, refl, ap, ◌∙◌, arith, append_assoc}
 use Rattle.std.specs.Prelude.{decimal, ◌==◌}
 use Rattle.std.specs.Char.{is_ascii_digit}
 use Rattle.std.specs.Str.{all_ascii_digits}
@@ -25,21 +25,17 @@ use Rattle.cep_text.proofs.ProofsFound.{clause_as_many}
 
 -- digits are bytes of names
 and_both : (a b : Bool) → (a && b) ≡ true → (a ≡ true) × (b ≡ true)
-and_both true b e = (refl, e)
-and_both false b e = absurd cc
+and_both a b e = grind arith
 
 first_among : (a b c d e f : Bool) → a ≡ true → (a || b || c || d || e || f) ≡ true
-first_among true b c d e f t = refl
-first_among false b c d e f t = absurd cc
+first_among a b c d e f t = grind arith
 
 digit_goes_on : (byte : ℕ) → is_ascii_digit byte ≡ true → is_name_byte byte ≡ true
 digit_goes_on byte t = first_among (is_ascii_digit byte) (nat_le 65 byte && nat_le byte 90) (nat_le 97 byte && nat_le byte 122) (byte == 95) (byte == 47) (byte == 39) t
 
 digits_go_on : (digits : List ℕ) → all_ascii_digits digits ≡ true → AreNameBytes digits
 digits_go_on [] t = tt
-digits_go_on (byte ∷ digits) t =
-    let parts = and_both (is_ascii_digit byte) (all_ascii_digits digits) t in
-    (digit_goes_on byte parts.0, digits_go_on digits parts.1)
+digits_go_on (byte ∷ digits) t = (digit_goes_on byte (and_both (is_ascii_digit byte) (all_ascii_digits digits) t).0, digits_go_on digits (and_both (is_ascii_digit byte) (all_ascii_digits digits) t).1)
 
 decimal_goes_on : (n : ℕ) → n < 2 ^ 64 → AreNameBytes (decimal n)
 decimal_goes_on n short = digits_go_on (decimal n) (digits_decimal (numerals_by_value (λ digits. all_ascii_digits digits ≡ true) tells_all_ascii_digits) n short)

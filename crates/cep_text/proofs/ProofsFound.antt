@@ -1,5 +1,5 @@
 -- What is read as a derivation is the text of one.
-use Rattle.std.proofs.Common.{◌≡◌, ℕ, zero, suc, ◌+◌, ◌≤◌, List, [], ◌∷◌, ◌++◌, length, take-append-drop, slice_get, codes, Option, Some, None, IsSomeAnd, refl, sym, ap, subst, ◌∙◌, arith, append_assoc}
+use Rattle.std.proofs.Common.{◌≡◌, ℕ, zero, suc, ◌+◌, ◌≤◌, List, [], ◌++◌, length, take-append-drop, slice_get, codes, Option, Some, IsSomeAnd, refl, sym, ap, subst, ◌∙◌, arith, append_assoc}
 use Rattle.std.specs.Prelude.{decimal}
 use Rattle.std.specs.List.{AllByRecursion}
 use Rattle.cep_term.specs.Tree.{Tree, AtomTree}
@@ -94,12 +94,10 @@ abbrev pub IsSoundProof : Parts → ℕ → Reader ProofTree → Type 0
 IsSoundProof program height read = (bytes : List ℕ) (proof : ProofTree) (rest : List ℕ) → read bytes ≡ Some (proof, rest) → ProofFound program height bytes proof rest
 
 none_as_many : (atoms : List AtomTree) → length atoms ≡ 0 → AreAsMany no_goal atoms
-none_as_many [] e = tt
-none_as_many (a ∷ atoms) e = absurd (omega arith)
+none_as_many atoms e = grind arith
 
 more_as_many : (goals : ℕ) (proof : ProofTree) (proofs : ProofTrees) → ((atoms : List AtomTree) → length atoms ≡ goals → AreAsMany proofs atoms) → (atoms : List AtomTree) → length atoms ≡ suc goals → AreAsMany (goal_by proof proofs) atoms
-more_as_many goals proof proofs many [] e = absurd (omega arith)
-more_as_many goals proof proofs many (a ∷ atoms) e = many atoms (omega arith)
+more_as_many goals proof proofs many atoms e = grind arith
 
 proofs_found : (program : Parts) (height : ℕ) (read : Reader ProofTree) → IsSoundProof program height read
     → (goals : ℕ) (bytes : List ℕ) (proofs : ProofTrees) (rest : List ℕ) → proofs_at read goals bytes ≡ Some (proofs, rest) → ProofsFound program height goals bytes proofs rest
@@ -127,8 +125,7 @@ proofs_found program height read sound (suc goals) bytes proofs rest e =
 
 -- what holds of the clause that is found
 told : (P : ClauseTree → Type 0) (found : Option ClauseTree) (clause : ClauseTree) → found ≡ Some clause → P clause → IsSomeAnd found P
-told P None clause e p = absurd cc
-told P (Some other) clause e p = let same : clause ≡ other = cc in subst P same p
+told P found clause e p = grind arith
 
 node_found : (program : Parts) (height : ℕ) (read : Reader ProofTree) → IsProgram program → IsSoundProof program height read
     → (bytes : List ℕ) (proof : ProofTree) (rest : List ℕ) → node_at program (small_at program.signature.cons) read bytes ≡ Some (proof, rest) → ProofFound program (suc height) bytes proof rest

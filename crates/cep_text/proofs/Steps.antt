@@ -7,12 +7,11 @@ use Rattle.cep_rule.specs.Derivations.{ProofTree, no_goal, goal_by}
 use Rattle.cep_text.specs.declared.stop.Stop.{Stop}
 use Rattle.cep_text.specs.declared.stop.Stop.TheVariants as stops
 use Rattle.cep_text.specs.Reading.{◌>>=◌, Fails, Reader, literal_at, argument_at, arguments_at, value_at, value_by, given_at, givens_at, proofs_at, node_at, proof_at}
+use Rattle.cep_base.proofs.Drops.{drop_at-suc as from_place}
 
 -- a step that fails makes the whole fail
 pub fails_first : {A B : Type 0} (stop : Stop) (r : Option A) (f : A → Option B) → Fails stop r → Fails stop (r >>= f)
-fails_first (stops.Memory error) r f failed = tt
-fails_first stops.Unread None f failed = refl
-fails_first stops.Unread (Some x) f failed = absurd cc
+fails_first stop r f failed = grind arith
 
 pub value_zero : (cons : List Con) (depth sort : ℕ) (bytes : List ℕ) → depth ≡ 0 → value_at cons depth sort bytes ≡ None
 unfolding value_at
@@ -23,16 +22,9 @@ pub value_more : (cons : List Con) (depth less sort : ℕ) (bytes : List ℕ) �
 unfolding value_at
 value_more cons depth less sort bytes e = ap (λ d. value_at cons d sort bytes) e
 
-from_place : {X : Type 0} (items : List X) (i : ℕ) (item : X) → slice_get items i ≡ Some item → drop i items ≡ item ∷ drop (suc i) items
-from_place [] i item e = absurd cc
-from_place (x ∷ items) zero item e = let p : x ≡ item = cc in ap (λ y. y ∷ items) p
-from_place (x ∷ items) (suc i) item e = from_place items i item e
-
 from_end : {X : Type 0} (items : List X) (i : ℕ) → i ≡ length items → drop i items ≡ []
-from_end [] zero e = refl
-from_end [] (suc i) e = absurd (omega arith)
-from_end (x ∷ items) zero e = absurd (omega arith)
 from_end (x ∷ items) (suc i) e = from_end items i (omega arith)
+from_end items i e = grind arith
 
 pub arguments_end : (value : ℕ → Reader Tree) (kinds : List ℕ) (i : ℕ) (bytes : List ℕ) → i ≡ length kinds → arguments_at value (drop i kinds) bytes ≡ Some (none, bytes)
 unfolding arguments_at

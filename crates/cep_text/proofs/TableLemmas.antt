@@ -1,5 +1,5 @@
 -- A table's keys, each of which holds its name in a field that `name_of` reads.
-use Rattle.std.proofs.Common.{◌≡◌, ◌≢◌, ℕ, zero, suc, ◌+◌, Bool, true, false, cond, List, [], ◌∷◌, ◌++◌, take, map, position, slice_get, Option, Some, None, refl, ap, ◌∙◌, bytes_eq, arith}
+use Rattle.std.proofs.Common.{◌≡◌, ◌≢◌, ℕ, zero, suc, ◌+◌, Bool, false, cond, List, [], ◌∷◌, ◌++◌, take, map, position, slice_get, Option, Some, None, refl, ap, ◌∙◌, bytes_eq, arith}
 use Rattle.std.specs.List.{list_any, position_from}
 use Rattle.std.proofs.lemmas.Iterator.Adapters.{position_from-zero}
 use Rattle.cep_base.proofs.Bytes.{bytes_eq_sym}
@@ -17,19 +17,15 @@ next_differs (other ∷ names) (suc i) name differ e =
     rw (bytes_apart other name apart, next_differs names i name differ.1 e) refl
 
 pub take_next : (names : List (List ℕ)) (i : ℕ) (name : List ℕ) → slice_get names i ≡ Some name → take (suc i) names ≡ take i names ++ name ∷ []
-take_next [] i name e = absurd cc
-take_next (other ∷ names) zero name e = let p : other ≡ name = cc in ap (λ (one : List ℕ). one ∷ []) p
 take_next (other ∷ names) (suc i) name e = ap (λ (front : List (List ℕ)). other ∷ front) (take_next names i name e)
+take_next names i name e = grind arith
 
 -- the place of a name of which that of the first name is not known, counted from a number
 shifted : (same : Bool) (i : ℕ) (found rest : Option ℕ) → found ≡ (rest >>= λ number. Some (i + 1 + number)) → cond same (Some i) found ≡ (cond same (Some zero) (rest >>= λ number. Some (suc number)) >>= λ number. Some (i + number))
-shifted true i found rest e = let p : i ≡ i + zero = omega arith in ap Some p
-shifted false i found None e = e
-shifted false i found (Some number) e = let p : i + 1 + number ≡ i + suc number = omega arith in e ∙ ap Some p
+shifted same i found rest e = grind arith
 
 from_zero : (found : Option ℕ) → (found >>= λ number. Some (0 + number)) ≡ found
-from_zero None = refl
-from_zero (Some number) = let p : 0 + number ≡ number = omega arith in ap Some p
+from_zero found = grind arith
 
 module _ {K : Type 0} (name_of : K → List ℕ) where
   pub none_seen : (name : List ℕ) (keys : List K) → number_among (map name_of keys) name ≡ None → list_any (λ key. bytes_eq name (name_of key)) keys ≡ false

@@ -85,8 +85,7 @@ no_sort program sort bytes keeps past t is = of_tree t is.value.ground is.value.
       omega arith
 
 pred_typed : (cons : List Con) (args : Trees) (found : Option PredDecl) (pred : PredDecl) → found ≡ Some pred → HaveSorts cons [] pred.args args → IsSomeAnd found (λ pred. HaveSorts cons [] pred.args args)
-pred_typed cons args None pred e typed = absurd cc
-pred_typed cons args (Some other) pred e typed = let p : pred ≡ other = cc in subst (λ (d : PredDecl). HaveSorts cons [] d.args args) p typed
+pred_typed cons args found pred e typed = grind arith
 
 -- the predicate of an atom that is well typed
 pub record PredOf (signature : Signature) (a : AtomTree) : Type 0 where
@@ -95,8 +94,7 @@ pub record PredOf (signature : Signature) (a : AtomTree) : Type 0 where
   pub typed : HaveSorts signature.cons [] pred.args a.args
 
 pub pred_of : (signature : Signature) (a : AtomTree) (found : Option PredDecl) → slice_get signature.preds a.pred ≡ found → IsSomeAnd found (λ pred. HaveSorts signature.cons [] pred.args a.args) → PredOf signature a
-pred_of signature a None e typed = absurd typed
-pred_of signature a (Some pred) e typed = record { pred = pred; numbered = e; typed = typed }
+pred_of signature a found e typed = grind arith
 
 pub atom_some : (program : Parts) (bytes : List ℕ) (a : AtomTree) → atom_read program.signature bytes ≡ Some a → IsAtomText program bytes a
 unfolding atom_read

@@ -1,5 +1,5 @@
 -- Values for the variables of a rule or a clause: there are as many as variables, and their constructors are declared.
-use Rattle.std.proofs.Common.{◌≡◌, ℕ, suc, zero, List, [], ◌∷◌, length, refl, sym, ap, subst, ◌∙◌}
+use Rattle.std.proofs.Common.{◌≡◌, ℕ, suc, List, ◌∷◌, length, sym, ap, subst, ◌∙◌, arith}
 use Rattle.std.specs.Prelude.{Option, Some, slice_get, IsSomeAnd}
 use Rattle.std.specs.List.{AllByRecursion}
 use Rattle.cep_term.specs.Tree.{Tree}
@@ -13,24 +13,15 @@ use Rattle.cep_rule.specs.Program.{IsProgram, IsTypedRule, IsTypedClause}
 use Rattle.cep_rule.specs.Shapes.{IsOfferOf, IsNodeOf}
 use Rattle.cep_text.specs.Texts.{HasNames}
 use Rattle.cep_text.proofs.Named.{has_names}
+use Rattle.cep_base.proofs.Lists.{holds_at as found_in}
 
 as_many : (cons : List Con) (kinds : List ℕ) (values : List Tree) → AreValues cons kinds values → length kinds ≡ length values
-as_many cons [] [] all = refl
-as_many cons [] (t ∷ values) all = absurd all
-as_many cons (sort ∷ kinds) [] all = absurd all
 as_many cons (sort ∷ kinds) (t ∷ values) all = ap suc (as_many cons kinds values all.1)
+as_many cons kinds values all = grind arith
 
 pub all_declared : (cons : List Con) (kinds : List ℕ) (values : List Tree) → AreValues cons kinds values → AllByRecursion (HasNames cons) values
-all_declared cons [] [] all = tt
-all_declared cons [] (t ∷ values) all = absurd all
-all_declared cons (sort ∷ kinds) [] all = absurd all
 all_declared cons (sort ∷ kinds) (t ∷ values) all = (has_names cons sort t all.0.ground all.0.typed, all_declared cons kinds values all.1)
-
--- what holds of each item holds of the one that is found
-found_in : {A : Type 0} (P : A → Type 0) (items : List A) (i : ℕ) (item : A) → AllByRecursion P items → slice_get items i ≡ Some item → P item
-found_in P [] i item all found = absurd cc
-found_in P (x ∷ items) zero item all found = let same : x ≡ item = cc in subst P same all.0
-found_in P (x ∷ items) (suc i) item all found = found_in P items i item all.1 found
+all_declared cons kinds values all = grind arith
 
 -- the same where it is found in one way and another
 told : {A : Type 0} (P : A → Type 0) (here : Option A) (item : A) → here ≡ Some item → IsSomeAnd here P → P item
@@ -40,9 +31,7 @@ pub offer_values : (program : Parts) (offer : Offer) (rule : Rule) → IsOfferOf
 offer_values program offer rule is found = told _ (slice_get program.rules offer.rule) rule found is
 
 pub rule_as_many : (program : Parts) (offer : Offer) (rule : Rule) → IsProgram program → IsOfferOf program offer → slice_get program.rules offer.rule ≡ Some rule → length rule.vars ≡ length offer.values
-rule_as_many program offer rule keeps is found =
-    let typed = found_in (IsTypedRule program.signature) program.rules offer.rule rule keeps.typed_rules found in
-    sym typed.kinds ∙ as_many program.signature.cons rule.kinds offer.values (offer_values program offer rule is found)
+rule_as_many program offer rule keeps is found = sym (found_in (IsTypedRule program.signature) program.rules offer.rule rule keeps.typed_rules found).kinds ∙ as_many program.signature.cons rule.kinds offer.values (offer_values program offer rule is found)
 
 pub node_values : (program : Parts) (number : ℕ) (values : List Tree) (clause : ClauseTree) → IsNodeOf program number values → slice_get program.clauses number ≡ Some clause → AreValues program.signature.cons clause.kinds values
 node_values program number values clause is found = told _ (slice_get program.clauses number) clause found is

@@ -1,5 +1,5 @@
 -- The text of a term is read as that term.
-use Rattle.std.proofs.Common.{◌≡◌, ℕ, suc, ◌-◌, ◌≤◌, false, eqb, List, [], ◌∷◌, ◌++◌, length, slice_get, codes, Option, Some, None, IsSomeAnd, refl, ap, ◌∙◌, arith, append_assoc, append-nil}
+use Rattle.std.proofs.Common.{◌≡◌, ℕ, suc, ◌-◌, ◌≤◌, false, eqb, List, [], ◌∷◌, ◌++◌, length, slice_get, codes, Option, Some, IsSomeAnd, refl, ap, ◌∙◌, arith, append_assoc, append-nil}
 use Rattle.std.proofs.Math.Dec.{eqb-suc-zero}
 use Rattle.cep_term.specs.Tree.{Tree, Trees, variable, node, none, more, IsGround, AreGround, term_depth, argument_depth}
 use Rattle.cep_rule.specs.declared.signature.Con.{Con}
@@ -21,8 +21,7 @@ pub record ConOf (cons : List Con) (sort number : ℕ) (args : Trees) : Type 0 w
   pub typed : HaveSorts cons [] con.args args
 
 pub con_of : (cons : List Con) (sort number : ℕ) (args : Trees) (found : Option Con) → slice_get cons number ≡ found → IsSomeAnd found (λ con. (con.sort ≡ sort) × HaveSorts cons [] con.args args) → ConOf cons sort number args
-con_of cons sort number args None e typed = absurd typed
-con_of cons sort number args (Some con) e typed = record { con = con; numbered = e; of_type = typed.0; typed = typed.1 }
+con_of cons sort number args found e typed = grind arith
 
 pub args_apart : (signature : Signature) (args : Trees) (rest : List ℕ) → IsApart rest → IsApart (args_text signature args ++ rest)
 args_apart signature none rest apart = apart

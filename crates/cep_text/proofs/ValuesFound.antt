@@ -76,8 +76,7 @@ inside_found signature depth value sound sorts bytes args rest e =
 
 -- a constructor with its arguments is a value of its type
 typed_by : (cons : List Con) (sort number : ℕ) (args : Trees) (found : Option Con) (con : Con) → found ≡ Some con → con.sort ≡ sort → HaveSorts cons [] con.args args → IsSomeAnd found (λ con. (con.sort ≡ sort) × HaveSorts cons [] con.args args)
-typed_by cons sort number args None con e type typed = absurd cc
-typed_by cons sort number args (Some other) con e type typed = let p : con ≡ other = cc in subst (λ (c : Con). (c.sort ≡ sort) × HaveSorts cons [] c.args args) p (type, typed)
+typed_by cons sort number args found con e type typed = grind arith
 
 no_kinds : (kinds : List ℕ) → eqb (length kinds) 0 ≡ true → kinds ≡ []
 no_kinds [] e = refl
@@ -101,9 +100,7 @@ bare_found signature depth sort bytes t rest e =
 enclosed_text : (signature : Signature) (number : ℕ) (con : Con) (sorts : List ℕ) (args : Trees) (bytes inner rest : List ℕ) → slice_get signature.cons number ≡ Some con
     → eqb (length sorts) 0 ≡ false → HaveSorts signature.cons [] sorts args → bytes ≡ con.name ++ inner → inner ≡ args_text signature args ++ (codes ")" ++ rest)
     → codes "(" ++ bytes ≡ term_text signature (node number args) ++ rest
-enclosed_text signature number con [] args bytes inner rest there some typed e f = absurd cc
-enclosed_text signature number con (sort ∷ sorts) none bytes inner rest there some typed e f = absurd typed
-enclosed_text signature number con (sort ∷ sorts) (more t others) bytes inner rest there some typed e f = grind (arith, append_assoc, con.name)
+enclosed_text signature number con sorts args bytes inner rest there some typed e f = grind (arith, append_assoc)
 
 enclosed_found : (signature : Signature) (depth : ℕ) (value : ℕ → Reader Tree) → IsSound signature depth value
     → (sort : ℕ) (bytes : List ℕ) (t : Tree) (rest : List ℕ) → enclosed_at value signature.cons sort bytes ≡ Some (t, rest) → Found signature (suc depth) sort (codes "(" ++ bytes) t rest
