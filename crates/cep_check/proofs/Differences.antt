@@ -1,6 +1,6 @@
 -- The first atom of which a listing says another count than a state has, and the first that lacks.
-use Rattle.std.proofs.Common.{◌≡◌, ◌⊎◌, inl, inr, ⊎_elim, ℕ, zero, suc, ◌+◌, ◌-◌, ◌<◌, ◌≤◌, true, false, List, [], ◌∷◌, length, Some, Contains, refl, sym, ap, subst, ◌∙◌, arith, Less, Equal, Greater}
-use Rattle.std.specs.Prelude.{slice_get, nat_lt}
+use Rattle.std.proofs.Common.{◌≡◌, ◌⊎◌, inl, inr, ⊎_elim, ℕ, zero, suc, ◌+◌, ◌-◌, ◌<◌, ◌≤◌, List, [], ◌∷◌, length, Some, Contains, refl, sym, ap, subst, ◌∙◌, arith, Less, Equal, Greater}
+use Rattle.std.specs.Prelude.{slice_get}
 use Rattle.std.specs.Ordering.{ordering_reverse}
 use Rattle.std.specs.FinMap.{len-entries}
 use Rattle.std.specs.FinMap as finite
@@ -26,21 +26,16 @@ three_ways i j = grind (arith, ltb-true, eqb-true, ltb-false, eqb-false)
 -- an element has a place
 pub place_in : (xs : List (AtomTree × ℕ)) (x : AtomTree × ℕ) → Contains xs x → (i : ℕ) × (slice_get xs i ≡ Some x)
 place_in [] x there = absurd (contains_none x there)
-place_in (first ∷ xs) x there = ⊎_elim
-    (λ (same : first ≡ x). (0, ap Some same))
-    (λ later. let at = place_in xs x later in (suc at.0, at.1))
-    (contains_cases first xs x there)
+place_in (first ∷ xs) x there = elim (contains_cases first xs x there) [ inl same ↦ (0, ap Some same) | inr later ↦ (let at = place_in xs x later in (suc at.0, at.1)) ]
 
 -- Atoms rise from place to place.
 abbrev Rises : List (AtomTree × ℕ) → Type 0
 Rises xs = (i j : ℕ) (a b : AtomTree) (m n : ℕ) → i < j → slice_get xs i ≡ Some (a, m) → slice_get xs j ≡ Some (b, n) → atom_cmp a b ≡ Less
 
 pub listing_rises : (xs : List (AtomTree × ℕ)) → AtomsRise xs → Rises xs
-listing_rises [] rising i j a b m n h p q = absurd (let within = slice_get_within [] i (a, m) p in omega arith)
-listing_rises (x ∷ xs) rising zero zero a b m n h p q = absurd (omega arith)
 listing_rises (x ∷ xs) rising zero (suc j) a b m n h p q = grind (arith, some_same, holds_at, x.0, rising.0)
-listing_rises (x ∷ xs) rising (suc i) zero a b m n h p q = absurd (omega arith)
 listing_rises (x ∷ xs) rising (suc i) (suc j) a b m n h p q = listing_rises xs rising.1 i j a b m n (omega arith) p q
+listing_rises xs rising i j a b m n h p q = grind arith
 
 module _ (laws : BagLaws) where
   pub not_itself : (a : AtomTree) → atom_cmp a a ≡ Less → ⊥
@@ -75,43 +70,19 @@ module _ (laws : BagLaws) where
   module _ (signature : Signature) (listing : List (AtomTree × ℕ)) (is : IsListing signature listing) (state : Multiset) (place : ℕ) (below : AgreeBelow place listing state) where
     -- atoms below one that no later place goes below are told alike
     alike_before : (x : AtomTree) → ((j : ℕ) (a : AtomTree) (m : ℕ) → place ≤ j → slice_get listing j ≡ Some (a, m) → atom_cmp a x ≡ Less → ⊥) → ((j : ℕ) (a : AtomTree) (m : ℕ) → place ≤ j → slice_get (finite.entries state) j ≡ Some (a, m) → atom_cmp a x ≡ Less → ⊥) → (a : AtomTree) → atom_cmp a x ≡ Less → ListsCount listing a (count_of state a)
-    alike_before x listed there a less = elim (nat_lt 0 (count_of state a)) as (λ t. nat_lt 0 (count_of state a) ≡ t → ListsCount listing a (count_of state a)) [
-      | true ↦ λ e.
-          let at = laws.entry_there state a (ltb-true 0 (count_of state a) e) in
-          ⊎_elim
-          (λ (before : at.0 < place). inl (contains_at listing at.0 (a, count_of state a) (below at.0 before ∙ at.1)))
-          (λ (behind : (at.0 ≡ place) ⊎ (place < at.0)). absurd (there at.0 a (count_of state a) (not_before at.0 behind) at.1 less))
-          (three_ways at.0 place)
-      | false ↦ λ e.
-          let low = ltb-false 0 (count_of state a) e in
-          inr (
-            (omega arith),
-            λ other there'.
-                let at = place_in listing (a, other) there' in
-                ⊎_elim
-                (λ (before : at.0 < place).
-                let count : count_of state a ≡ other = laws.entry_counted state at.0 a other (sym (below at.0 before) ∙ at.1) in
-                let some = (holds_at (IsHave signature) listing at.0 (a, other) is.each at.1).some in
-                absurd (omega arith))
-                (λ (behind : (at.0 ≡ place) ⊎ (place < at.0)). listed at.0 a other (not_before at.0 behind) at.1 less)
-                (three_ways at.0 place),
-          )
-    ] refl
-      where
-        not_before : (j : ℕ) → (j ≡ place) ⊎ (place < j) → place ≤ j
-        not_before j behind = ⊎_elim (λ (here : j ≡ place). omega arith) (λ (after : place < j). omega arith) behind
+    alike_before x listed there a less = elim (three_ways 0 (count_of state a)) [
+      | inl some ↦ let at = laws.entry_there state a some in inl (contains_at listing at.0 (a, count_of state a) (below at.0 (grind (arith, three_ways at.0 place, there at.0 a (count_of state a), at.1)) ∙ at.1))
+      | inr either ↦ inr (
+        grind arith,
+        λ other there'.
+            let at = place_in listing (a, other) there' in
+            grind (arith, three_ways at.0 place, below at.0, at.1, laws.entry_counted state at.0 a other, (holds_at (IsHave signature) listing at.0 (a, other) is.each at.1).some, listed at.0 a other),
+      )
+    ]
 
     -- an entry that the listing does not have after here it does not have at all
     unlisted : (x : AtomTree) (n : ℕ) → slice_get (finite.entries state) place ≡ Some (x, n) → ((j : ℕ) (m : ℕ) → place ≤ j → slice_get listing j ≡ Some (x, m) → ⊥) → ListsCount listing x 0
-    unlisted x n at none = inr (
-      refl,
-      λ other there.
-          let found = place_in listing (x, other) there in
-          ⊎_elim
-          (λ (before : found.0 < place). not_itself x (entries_rise state found.0 place x x other n before (sym (below found.0 before) ∙ found.1) at))
-          (λ (behind : (found.0 ≡ place) ⊎ (place < found.0)). none found.0 other (⊎_elim (λ (here : found.0 ≡ place). omega arith) (λ (after : place < found.0). omega arith) behind) found.1)
-          (three_ways found.0 place),
-    )
+    unlisted x n at none = inr (refl, λ other there. let found = place_in listing (x, other) there in grind (arith, three_ways found.0 place, entries_rise state found.0 place x x other n, not_itself x, below found.0, found.1, none found.0 other))
 
     -- and a line whose atom the state does not have after here is of an atom that is not there
     not_there : (x : AtomTree) (n : ℕ) → slice_get listing place ≡ Some (x, n) → ((j : ℕ) (m : ℕ) → place ≤ j → slice_get (finite.entries state) j ≡ Some (x, m) → ⊥) → 0 ≡ count_of state x
@@ -178,16 +149,9 @@ module _ (laws : BagLaws) where
 -- lists that agree place by place are one
 pub same_lists : (xs ys : List (AtomTree × ℕ)) (n : ℕ) → length xs ≤ n → length ys ≤ n → ((place : ℕ) → place < n → slice_get xs place ≡ slice_get ys place) → xs ≡ ys
 same_lists [] [] n short short' agree = refl
-same_lists [] (y ∷ ys) n short short' agree = let first = agree 0 (omega arith) in absurd cc
-same_lists (x ∷ xs) [] n short short' agree = let first = agree 0 (omega arith) in absurd cc
-same_lists (x ∷ xs) (y ∷ ys) n short short' agree =
-    let first : x ≡ y = some_same x y (agree 0 (omega arith)) in
-    let rest = same_lists xs ys (n - 1) (omega arith) (omega arith) (λ place within. agree (suc place) (omega arith)) in
-    ap (λ e. e ∷ xs) first ∙ ap (λ es. y ∷ es) rest
-
--- a listing and a state that agree at one place more
-pub agree_more : (listing : List (AtomTree × ℕ)) (state : Multiset) (n : ℕ) → AgreeBelow n listing state → Agree n listing state → AgreeBelow (n + 1) listing state
-agree_more listing state n below here = grind (arith, eqb-true, eqb-false)
+same_lists [] (y ∷ ys) n short short' agree = grind (arith, agree 0)
+same_lists (x ∷ xs) [] n short short' agree = grind (arith, agree 0)
+same_lists (x ∷ xs) (y ∷ ys) n short short' agree = rw (some_same x y (agree 0 (omega arith)), same_lists xs ys (n - 1) (omega arith) (omega arith) (λ place within. agree (suc place) (omega arith))) refl
 
 -- Of the atoms at the first places no more copies are needed than the state has.
 abbrev pub EnoughBelow : ℕ → Multiset → Multiset → Type 0
@@ -211,7 +175,4 @@ module _ (laws : BagLaws) (needed state : Multiset) where
 
   -- where none lacks, all are there
   pub enough_all : (n : ℕ) → finite.len needed ≤ n → EnoughBelow n needed state → IsContained needed state
-  enough_all n all below = λ a. enough_of n below a (λ j m behind there.
-      let within = slice_get_within (finite.entries needed) j (a, m) there in
-      let same = len-entries needed in
-      omega arith)
+  enough_all n all below = λ a. enough_of n below a (λ j m behind there. omega (arith, slice_get_within (finite.entries needed) j (a, m) there, len-entries needed))

@@ -1,5 +1,5 @@
 -- What a step of a log does to where the steps have led.
-use Rattle.std.proofs.Common.{◌≡◌, ℕ, List, length, arith}
+use Rattle.std.proofs.Common.{ℕ, List, length, arith}
 use Rattle.std.specs.List.{AllByRecursion}
 use Rattle.cep_base.proofs.Lists.{all_weaker, all_mapped}
 use Rattle.cep_term.specs.Tree.{Tree, AtomTree, IsGroundAtom, IsAtomInRange}
@@ -13,7 +13,6 @@ use Rattle.cep_rule.specs.Steps.{Spot}
 use Rattle.cep_log.specs.declared.log.LogStep.{LogStep}
 use Rattle.cep_step.specs.declared.change.Change.{Change}
 use Rattle.cep_step.specs.Changes.{edited, changed, IsChangeOf}
-use Rattle.cep_step.specs.Spots.{IsSpotOf}
 use Rattle.cep_check.specs.declared.cause.Cause.{Cause}
 use Rattle.cep_check.specs.declared.cause.Cause.TheVariants.{StageLine, MidState}
 use Rattle.cep_check.specs.Causes.{IsInTurn, IsWithinLimits, IsStepCause}
@@ -35,10 +34,6 @@ module _ (program : Parts) (height : ℕ) (old : Spot) (rule : Rule) (step : Log
   pub stage_cause : (cause : Cause) → IsStageCause step.stage rule.next cause → IsStepCause program height old rule step cause
   stage_cause (StageLine said is) other = ((edited old.state change, within), other.0, other.1, other.2)
   stage_cause cause other = absurd other
-
-  -- it is done
-  pub is_done : (new : Spot) → new ≡ changed old change → step.stage ≡ rule.next → IsDoneStep program height old new rule step × IsSpotOf program new
-  is_done new same staged = grind (arith, within, ready.numbered, ready.values, in_turn.quiet, in_turn.is_proved.can_take.of_stage, in_turn.is_proved.proved, is.leads, is.of_program)
 
 -- a step that is done is followed by another listing than that of where it leads
 pub mid_cause : (program : Parts) (height : ℕ) (old new : Spot) (rule : Rule) (step : LogStep) (cause : Cause) → IsDoneStep program height old new rule step → IsMidCause step.mid new.state cause → IsStepCause program height old rule step cause

@@ -89,13 +89,7 @@ module _ (laws : BagLaws) where
       says
     where
       by : (i : ℕ) × (slice_get listing i ≡ Some (a, m)) → (j : ℕ) × (slice_get listing j ≡ Some (a, n)) → m ≡ n
-      by at at' = ⊎_elim
-          (λ before. absurd (not_itself laws a (listing_rises listing rising at.0 at'.0 a a m n before at.1 at'.1)))
-          (λ either. ⊎_elim
-          (λ (same : at.0 ≡ at'.0). ap (λ (e : AtomTree × ℕ). e.1) (some_same (a, m) (a, n) (sym at.1 ∙ ap (slice_get listing) same ∙ at'.1)))
-          (λ behind. absurd (not_itself laws a (listing_rises listing rising at'.0 at.0 a a n m behind at'.1 at.1)))
-          either)
-          (three_ways at.0 at'.0)
+      by at at' = grind (arith, not_itself, listing_rises, some_same, three_ways)
 
   -- no difference before the first
   no_earlier : (listing : List (AtomTree × ℕ)) → AtomsRise listing → (state : Multiset) (a b : AtomTree) (said said' is is' : ℕ) → IsFirstDifference listing state a said is → IsFirstDifference listing state b said' is' → atom_cmp a b ≡ Less → ⊥

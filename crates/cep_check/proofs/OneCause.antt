@@ -1,5 +1,5 @@
 -- A log is refused for one cause at one line.
-use Rattle.std.proofs.Common.{◌≡◌, ⊎_elim, ℕ, List, [], ◌∷◌, ◌++◌, codes, Option, Some, None, refl, sym, ap, subst, ◌∙◌}
+use Rattle.std.proofs.Common.{◌≡◌, ⊎_elim, ℕ, List, [], ◌∷◌, ◌++◌, codes, Option, Some, None, refl, sym, ap, subst, ◌∙◌, arith}
 use Rattle.std.specs.Prelude.{IfSome}
 use Rattle.std.specs.List.{AllByRecursion}
 use Rattle.cep_base.proofs.Lists.{some_same}
@@ -38,8 +38,7 @@ module _ (laws : BagLaws) (order : OffersOrdered) (one : LeadsToOne) (needs : Ne
   asked_clash height last end offer quiet asked truly = ⊎_elim (λ own. (truly quiet).0 (offer, own.is)) (λ leaving. (truly quiet).1 (offer, leaving.1.is)) asked
 
   ends_rise : (end : Option LogEnd) → IfSome end (λ e. IsListing program.signature e.state) → IfSome end (λ e. AtomsRise e.state)
-  ends_rise None is = is
-  ends_rise (Some end) is = is.rising
+  ends_rise end is = grind arith
 
   end_alike : (log : Log) → IsLogOf program log → (last : Spot) (end : Option LogEnd) → IfSome end (λ e. AtomsRise e.state) → (cause other : Cause) → IsEndCause program log.height last end cause → IsEndCause program log.height last end other → AreToldAlike program cause other
   end_alike log of last None rising NotEnded NotEnded comes comes' = refl

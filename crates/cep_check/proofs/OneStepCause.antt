@@ -1,5 +1,5 @@
 -- A step is refused for one cause at one line.
-use Rattle.std.proofs.Common.{◌≡◌, ⊎_elim, ℕ, zero, suc, ◌+◌, ◌-◌, ◌<◌, List, ◌++◌, codes, decimal, Option, refl, sym, ap, subst, ◌∙◌, arith}
+use Rattle.std.proofs.Common.{◌≡◌, ℕ, zero, suc, ◌+◌, ◌-◌, ◌<◌, List, ◌++◌, codes, decimal, Option, sym, ap, subst, ◌∙◌, arith}
 use Rattle.std.specs.Prelude.{slice_get, IfSome}
 use Rattle.cep_base.proofs.Lists.{some_same}
 use Rattle.cep_term.specs.BagLaws.{BagLaws}
@@ -84,26 +84,15 @@ module _ (laws : BagLaws) (order : OffersOrdered) (one : LeadsToOne) (needs : Ne
     tests (EndState atom said is) = 8
 
     has_passed : (cause : Cause) → IsStepCause program height old rule step cause → Passed (tests cause)
-    has_passed (OtherStage number) comes = tt
-    has_passed (NotContained atom have need) comes = comes.0
-    has_passed (NotProved place) comes = comes.0
-    has_passed (TooHigh place high) comes = comes.0
-    has_passed (NotQuiet offer) comes = comes.0
-    has_passed (OverLimit Atom) comes = comes.0
     has_passed (OverLimit State) comes = (comes.0, comes.1.0)
-    has_passed (StageLine said is) comes = comes.0
     has_passed (MidState line atom said is) comes = (comes.0, comes.1)
-    has_passed cause comes = absurd comes
+    has_passed cause comes = grind arith
 
     fails_next : (cause : Cause) → IsStepCause program height old rule step cause → Passed (suc (tests cause)) → ⊥
     fails_next (OtherStage number) comes passed = comes.1 passed
     fails_next (NotContained atom have need) comes passed = grind (arith, passed.contained, comes.1.wanted, comes.1.there, comes.1.lacks)
     fails_next (NotProved place) comes passed = comes.1.3 (proofs_at program height step.proofs goals comes.1.2.before comes.1.0 comes.1.1 passed.proved comes.1.2.derivation comes.1.2.premise).0
-    fails_next (TooHigh place high) comes passed =
-        let low = (proofs_at program height step.proofs goals comes.1.2.before comes.1.0 comes.1.1 passed.proved comes.1.2.derivation comes.1.2.premise).1 in
-        let is = comes.1.4 in
-        let above = comes.1.5 in
-        omega arith
+    fails_next (TooHigh place high) comes passed = omega (arith, (proofs_at program height step.proofs goals comes.1.2.before comes.1.0 comes.1.1 passed.proved comes.1.2.derivation comes.1.2.premise).1, comes.1.4, comes.1.5)
     fails_next (NotQuiet offer) comes passed = passed.quiet comes.1 (offer, comes.2.is)
     fails_next (OverLimit Atom) comes passed = comes.1 passed.1
     fails_next (OverLimit State) comes passed =
@@ -118,13 +107,7 @@ module _ (laws : BagLaws) (order : OffersOrdered) (one : LeadsToOne) (needs : Ne
         fails_next cause comes (passed_all_before (tests other - suc (tests cause)) (suc (tests cause)) (tests other) (omega (arith, fewer)) (has_passed other comes'))
 
     as_many_tests : (cause other : Cause) → IsStepCause program height old rule step cause → IsStepCause program height old rule step other → tests cause ≡ tests other
-    as_many_tests cause other comes comes' = ⊎_elim
-        (λ fewer. absurd (no_fewer cause other comes comes' fewer))
-        (λ either. ⊎_elim
-        (λ same. same)
-        (λ more. absurd (no_fewer other cause comes' comes more))
-        either)
-        (three_ways (tests cause) (tests other))
+    as_many_tests cause other comes comes' = grind (arith, no_fewer cause other comes comes', no_fewer other cause comes' comes, three_ways (tests cause) (tests other))
 
     unproved_fails : (proof : ProofTree) (goal : AtomTree) → (¬ Proves program proof goal) → Fails program height proof goal
     unproved_fails proof goal not = λ ok. not ok.0
@@ -137,15 +120,13 @@ module _ (laws : BagLaws) (order : OffersOrdered) (one : LeadsToOne) (needs : Ne
 
     other_stage_alike : (number : ℕ) (comes : IsStepCause program height old rule step (OtherStage number)) (other : Cause) → IsStepCause program height old rule step other → 0 ≡ tests other → AreToldAlike program (OtherStage number) other
     other_stage_alike number comes (OtherStage number') comes' same = ap (λ n. codes "OtherStage " ++ offer_name (slice_get program.rules n)) (comes.0 ∙ sym comes'.0)
-    other_stage_alike number comes (OverLimit Atom) comes' same = absurd (omega (arith, same))
-    other_stage_alike number comes other comes' same = absurd (omega (arith, same))
+    other_stage_alike number comes other comes' same = grind (arith, same)
 
     lack_alike : (atom : _) (have need : ℕ) (comes : IsStepCause program height old rule step (NotContained atom have need)) (other : Cause) → IsStepCause program height old rule step other → 1 ≡ tests other → AreToldAlike program (NotContained atom have need) other
     lack_alike atom have need comes (NotContained atom' have' need') comes' same =
         counts_alike (codes "NotContained have ") (codes " need ") have have' need need' (atom_of atom) (atom_of atom')
         (lack_once laws (left_of program.signature rule step.offer.values) old.state (atom_of atom) (atom_of atom') have have' need need' comes.1 comes'.1)
-    lack_alike atom have need comes (OverLimit Atom) comes' same = absurd (omega (arith, same))
-    lack_alike atom have need comes other comes' same = absurd (omega (arith, same))
+    lack_alike atom have need comes other comes' same = grind (arith, same)
 
     unproved_alike : (place : ℕ) (comes : IsStepCause program height old rule step (NotProved place)) (other : Cause) → IsStepCause program height old rule step other → 2 ≡ tests other → AreToldAlike program (NotProved place) other
     unproved_alike place comes (NotProved place') comes' same =
@@ -157,8 +138,7 @@ module _ (laws : BagLaws) (order : OffersOrdered) (one : LeadsToOne) (needs : Ne
         proved_and_not place place' comes.1.0 comes'.1.0 comes.1.1 comes'.1.1 comes.1.2 comes'.1.2
         (fails_once program height step.proofs goals place place' comes.1.0 comes'.1.0 comes.1.1 comes'.1.1 comes.1.2 comes'.1.2 (unproved_fails comes.1.0 comes.1.1 comes.1.3) (high_fails comes'.1.0 comes'.1.1 high' comes'.1.4 comes'.1.5))
         comes.1.3 comes'.1.3
-    unproved_alike place comes (OverLimit Atom) comes' same = absurd (omega (arith, same))
-    unproved_alike place comes other comes' same = absurd (omega (arith, same))
+    unproved_alike place comes other comes' same = grind (arith, same)
 
     high_alike : (place high : ℕ) (comes : IsStepCause program height old rule step (TooHigh place high)) (other : Cause) → IsStepCause program height old rule step other → 2 ≡ tests other → AreToldAlike program (TooHigh place high) other
     high_alike place high comes (NotProved place') comes' same =
@@ -172,31 +152,25 @@ module _ (laws : BagLaws) (order : OffersOrdered) (one : LeadsToOne) (needs : Ne
         let one_proof : comes.1.0 ≡ comes'.1.0 = some_same comes.1.0 comes'.1.0 (sym at.derivation ∙ ap (slice_get step.proofs) here ∙ at'.derivation) in
         ap (λ n. codes "TooHigh " ++ decimal n ++ codes " " ++ decimal high) (at.counted ∙ ap (λ n. n + 1) here ∙ sym at'.counted)
         ∙ ap (λ n. codes "TooHigh " ++ decimal place' ++ codes " " ++ decimal n) (comes.1.4 ∙ ap proof_height one_proof ∙ sym comes'.1.4)
-    high_alike place high comes (OverLimit Atom) comes' same = absurd (omega (arith, same))
-    high_alike place high comes other comes' same = absurd (omega (arith, same))
+    high_alike place high comes other comes' same = grind (arith, same)
 
     not_quiet_alike : (offer : Offer) (comes : IsStepCause program height old rule step (NotQuiet offer)) (other : Cause) → IsStepCause program height old rule step other → 3 ≡ tests other → AreToldAlike program (NotQuiet offer) other
     not_quiet_alike offer comes (NotQuiet offer') comes' same = ap (λ o. codes "NotQuiet " ++ offer_text program o) (first_offer_once order program height old.state (own_group old.stage) offer offer' comes.2 comes'.2)
-    not_quiet_alike offer comes (OverLimit Atom) comes' same = absurd (omega (arith, same))
-    not_quiet_alike offer comes other comes' same = absurd (omega (arith, same))
+    not_quiet_alike offer comes other comes' same = grind (arith, same)
 
     atom_limit_alike : (comes : IsStepCause program height old rule step (OverLimit Atom)) (other : Cause) → IsStepCause program height old rule step other → 4 ≡ tests other → AreToldAlike program (OverLimit Atom) other
-    atom_limit_alike comes (OverLimit Atom) comes' same = refl
-    atom_limit_alike comes other comes' same = absurd (omega (arith, same))
+    atom_limit_alike comes other comes' same = grind arith
 
     state_limit_alike : (comes : IsStepCause program height old rule step (OverLimit State)) (other : Cause) → IsStepCause program height old rule step other → 5 ≡ tests other → AreToldAlike program (OverLimit State) other
-    state_limit_alike comes (OverLimit State) comes' same = refl
-    state_limit_alike comes other comes' same = absurd (omega (arith, same))
+    state_limit_alike comes other comes' same = grind arith
 
     stage_line_alike : (said is : ℕ) (comes : IsStepCause program height old rule step (StageLine said is)) (other : Cause) → IsStepCause program height old rule step other → 6 ≡ tests other → AreToldAlike program (StageLine said is) other
     stage_line_alike said is comes (StageLine said' is') comes' same = stages_alike (codes "StageLine said ") said said' is is' (some_same said said' (sym comes.1 ∙ comes'.1)) (some_same is is' (sym comes.2 ∙ comes'.2))
-    stage_line_alike said is comes (OverLimit Atom) comes' same = absurd (omega (arith, same))
-    stage_line_alike said is comes other comes' same = absurd (omega (arith, same))
+    stage_line_alike said is comes other comes' same = grind (arith, same)
 
     -- the line of every cause but that of a listing is that of the step
     own_line : (cause : Cause) → (tests cause ≡ 7 → ⊥) → step.line ≡ cause_line step cause
-    own_line (MidState line atom said is) other = absurd (other refl)
-    own_line cause other = refl
+    own_line cause other = grind arith
 
     -- Two causes are told alike, at one line.
     abbrev pub AreAlike : Cause → Cause → Type 0
@@ -220,8 +194,7 @@ module _ (laws : BagLaws) (order : OffersOrdered) (one : LeadsToOne) (needs : Ne
 
       mid_alike : (line : ℕ) (atom : _) (said is : ℕ) (comes : IsStepCause program height old rule step (MidState line atom said is)) (other : Cause) → IsStepCause program height old rule step other → 7 ≡ tests other → AreAlike (MidState line atom said is) other
       mid_alike line atom said is comes (MidState line' atom' said' is') comes' same = both_mid line line' atom atom' said said' is is' comes comes'
-      mid_alike line atom said is comes (OverLimit Atom) comes' same = absurd (omega (arith, same))
-      mid_alike line atom said is comes other comes' same = absurd (omega (arith, same))
+      mid_alike line atom said is comes other comes' same = grind (arith, same)
 
       pub step_alike : (cause other : Cause) → IsStepCause program height old rule step cause → IsStepCause program height old rule step other → AreAlike cause other
       step_alike cause other comes comes' = by cause comes (as_many_tests cause other comes comes')

@@ -1,5 +1,5 @@
 -- A log that is refused is not legal.
-use Rattle.std.proofs.Common.{◌≡◌, inl, inr, ⊎_elim, ℕ, zero, suc, ◌≤◌, List, [], ◌∷◌, Some, None, sym, ap, subst, ◌∙◌, arith, Contains}
+use Rattle.std.proofs.Common.{◌≡◌, inl, inr, ⊎_elim, ℕ, suc, ◌≤◌, List, [], ◌∷◌, Some, None, sym, ap, subst, ◌∙◌, arith, Contains}
 use Rattle.std.specs.Prelude.{slice_get, Option, IfSome, IsSomeAnd}
 use Rattle.std.specs.FinMap as finite
 use Rattle.cep_base.proofs.Elements.{contains_at}
@@ -33,10 +33,8 @@ LeadsToOne = (signature : Signature) (rule : Rule) (values : List Tree) (old one
 
 -- each of the derivations proves its goal
 pub proofs_at : (program : Parts) (height : ℕ) (proofs : List ProofTree) (goals : List AtomTree) (n : ℕ) (proof : ProofTree) (goal : AtomTree) → AreProofs program height proofs goals → slice_get proofs n ≡ Some proof → slice_get goals n ≡ Some goal → Proves program proof goal × (proof_height proof ≤ height)
-proofs_at program height [] goals n proof goal all p q = absurd cc
-proofs_at program height (x ∷ proofs) [] n proof goal all p q = absurd all
-proofs_at program height (x ∷ proofs) (y ∷ goals) zero proof goal all p q = grind (arith, some_same, all.0, all.1)
 proofs_at program height (x ∷ proofs) (y ∷ goals) (suc n) proof goal all p q = proofs_at program height proofs goals n proof goal all.2 p q
+proofs_at program height proofs goals n proof goal all p q = grind arith
 
 -- a step needs its left side
 abbrev pub NeedsLeft : Type 0
@@ -72,27 +70,15 @@ module _ (laws : BagLaws) (one : LeadsToOne) (needs : NeedsLeft) (program : Part
 
       by : (cause : Cause) → IsStepCause program height old rule step cause → ⊥
       by (OtherStage number) comes = comes.1 (⊎_elim (λ own. inl own) (λ leaving. inr leaving.0) machine.in_turn)
-      by (NotContained atom have need) comes =
-          let lack = comes.1 in
-          let enough = needs program.signature rule step.offer.values old.state new.state machine.steps.step (atom_of atom) in
-          let wanted = lack.wanted in
-          let there = lack.there in
-          let lacks = lack.lacks in
-          omega arith
+      by (NotContained atom have need) comes = omega (arith, needs program.signature rule step.offer.values old.state new.state machine.steps.step (atom_of atom), comes.1.wanted, comes.1.there, comes.1.lacks)
       by (NotProved place) comes = comes.1.3 (proofs_at program height step.proofs (full_instances step.offer.values rule.backs) comes.1.2.before comes.1.0 comes.1.1 machine.proved comes.1.2.derivation comes.1.2.premise).0
-      by (TooHigh place high) comes =
-          let low = (proofs_at program height step.proofs (full_instances step.offer.values rule.backs) comes.1.2.before comes.1.0 comes.1.1 machine.proved comes.1.2.derivation comes.1.2.premise).1 in
-          let is = comes.1.4 in
-          let above = comes.1.5 in
-          omega arith
+      by (TooHigh place high) comes = omega (arith, (proofs_at program height step.proofs (full_instances step.offer.values rule.backs) comes.1.2.before comes.1.0 comes.1.1 machine.proved comes.1.2.derivation comes.1.2.premise).1, comes.1.4, comes.1.5)
       by (NotQuiet offer) comes = ⊎_elim
           (λ own. groups_apart rule.group old.stage own comes.1)
           (λ leaving. leaving.1 (offer, comes.2.is))
           machine.in_turn
       by (OverLimit Atom) comes = comes.1 machine.steps.fit
-      by (OverLimit State) comes =
-          let over = comes.1.1 in
-          over.2 (subst Fits (one program.signature rule step.offer.values old.state new.state over.0 machine.steps.step over.1) machine.steps.fits)
+      by (OverLimit State) comes = comes.1.1.2 (subst Fits (one program.signature rule step.offer.values old.state new.state comes.1.1.0 machine.steps.step comes.1.1.1) machine.steps.fits)
       by (StageLine said is) comes = comes.3 (some_same said is (sym comes.1 ∙ legal.stage ∙ ap (λ (r : Rule). r.next) same ∙ comes.2))
       by (MidState line atom said is) comes =
           let mid = comes.2 in

@@ -18,7 +18,6 @@ use Rattle.cep_log.specs.declared.log.Log.{Log}
 use Rattle.cep_log.specs.declared.log.LogStep.{LogStep}
 use Rattle.cep_log.specs.Legal.{IsStepOf, IsLegalStep, AreLegalSteps}
 use Rattle.cep_check.specs.declared.cause.Cause.{Cause}
-use Rattle.cep_check.specs.declared.cause.Cause.TheVariants.{NotContained, NotProved, TooHigh, NotQuiet}
 use Rattle.cep_check.specs.Causes.{IsOfStage, CanTake, IsProvedStep, IsStepCause, cause_line, IsRefusedFrom}
 use Rattle.cep_check.specs.Walking.{IsReadyStep, IsLackCause, IsProofAt, IsOneProofCause, IsProofCause, IsQuietCause}
 
@@ -31,10 +30,8 @@ of_no_stage stage rule apart = λ is. ⊎_elim (λ (own : rule.group ≡ own_gro
 
 -- where one more derivation proves its goal, all up to it do
 proofs_one : (program : Parts) (height : ℕ) (proofs : List ProofTree) (goals : List AtomTree) (n : ℕ) (proof : ProofTree) (goal : AtomTree) → AreProofs program height (take n proofs) (take n goals) → slice_get proofs n ≡ Some proof → slice_get goals n ≡ Some goal → IsProofAt program height proof goal → AreProofs program height (take (suc n) proofs) (take (suc n) goals)
-proofs_one program height [] goals n proof goal all p q is = absurd cc
-proofs_one program height (x ∷ proofs) [] n proof goal all p q is = absurd cc
-proofs_one program height (x ∷ proofs) (y ∷ goals) zero proof goal all p q is = grind (arith, some_same)
 proofs_one program height (x ∷ proofs) (y ∷ goals) (suc n) proof goal all p q is = (all.0, all.1, proofs_one program height proofs goals n proof goal all.2 p q is)
+proofs_one program height proofs goals n proof goal all p q is = grind arith
 
 pub proofs_more : (program : Parts) (height : ℕ) (proofs : List ProofTree) (goals : List AtomTree) (n : ℕ) (proof : ProofTree) (goal : AtomTree) → AreProofs program height (take n proofs) (take n goals) → slice_get proofs n ≡ Some proof → slice_get goals n ≡ Some goal → IsProofAt program height proof goal → AreProofs program height (take (n + 1) proofs) (take (n + 1) goals)
 proofs_more program height proofs goals n proof goal all p q is = subst (λ m. AreProofs program height (take m proofs) (take m goals)) (sym (add-one n)) (proofs_one program height proofs goals n proof goal all p q is)
@@ -44,23 +41,17 @@ proofs_all program height proofs goals n short short' all = subst (λ ps. ArePro
 
 -- the cause of a derivation at a place is that of all, where those before it prove their goals
 pub proof_cause : (program : Parts) (height : ℕ) (proofs : List ProofTree) (goals : List AtomTree) (n place : ℕ) (proof : ProofTree) (goal : AtomTree) (cause : Cause) → place ≡ n + 1 → AreProofs program height (take n proofs) (take n goals) → slice_get proofs n ≡ Some proof → slice_get goals n ≡ Some goal → IsOneProofCause program height proof goal place cause → IsProofCause program height proofs goals cause
-proof_cause program height proofs goals n place proof goal (NotProved at) is all p q fails = (proof, goal, record { before = n; counted = fails.0 ∙ is; derivation = p; premise = q; proved = all }, fails.1)
-proof_cause program height proofs goals n place proof goal (TooHigh at high) is all p q fails = (proof, goal, record { before = n; counted = fails.0 ∙ is; derivation = p; premise = q; proved = all }, fails.1, fails.2, fails.3)
-proof_cause program height proofs goals n place proof goal cause is all p q fails = absurd fails
+proof_cause program height proofs goals n place proof goal cause is all p q fails = grind arith
 
 module _ (program : Parts) (height : ℕ) (old : Spot) (rule : Rule) (step : LogStep) where
   pub lack_cause : (cause : Cause) → IsOfStage old.stage rule → IsLackCause (left_of program.signature rule step.offer.values) old.state cause → IsStepCause program height old rule step cause
-  lack_cause (NotContained atom have need) of_stage lacks = (of_stage, lacks)
-  lack_cause cause of_stage lacks = absurd lacks
+  lack_cause cause of_stage lacks = grind arith
 
   pub failure_cause : (cause : Cause) → CanTake program old rule step.offer → IsProofCause program height step.proofs (full_instances step.offer.values rule.backs) cause → IsStepCause program height old rule step cause
-  failure_cause (NotProved place) can fails = (can, fails)
-  failure_cause (TooHigh place high) can fails = (can, fails)
-  failure_cause cause can fails = absurd fails
+  failure_cause cause can fails = grind arith
 
   pub quiet_cause : (cause : Cause) → IsProvedStep program height old rule step → IsQuietCause program height old rule cause → IsStepCause program height old rule step cause
-  quiet_cause (NotQuiet offer) is there = (is, there.0, there.1)
-  quiet_cause cause is there = absurd there
+  quiet_cause cause is there = grind arith
 
 -- one step more
 legal_one : (program : Parts) (height : ℕ) (steps : List LogStep) (n : ℕ) (step : LogStep) (old new last : Spot) → slice_get steps n ≡ Some step → IsLegalStep program height old new step → AreLegalSteps program height (drop (suc n) steps) new last → AreLegalSteps program height (drop n steps) old last
@@ -80,9 +71,8 @@ pub refused_next : (program : Parts) (log : Log) (steps : List LogStep) (n : ℕ
 refused_next program log steps n step old new line cause at legal rest = refused_one program log steps n step old new line cause at legal (subst (λ m. IsRefusedFrom program log new (drop m steps) line cause) (add-one n) rest)
 
 pub refused_here : (program : Parts) (log : Log) (steps : List LogStep) (n : ℕ) (step : LogStep) (old : Spot) (cause : Cause) → slice_get steps n ≡ Some step → ((rule : Rule) × (slice_get program.rules step.offer.rule ≡ Some rule) × IsStepCause program log.height old rule step cause) → IsRefusedFrom program log old (drop n steps) (cause_line step cause) cause
-refused_here program log [] n step old cause at comes = absurd cc
-refused_here program log (x ∷ steps) zero step old cause at comes = grind (arith, some_same, program.rules, log.height)
 refused_here program log (x ∷ steps) (suc n) step old cause at comes = refused_here program log steps n step old cause at comes
+refused_here program log steps n step old cause at comes = grind arith
 
 -- no proof is of what is not fit
 pub only_fit : (program : Parts) (proof : ProofTree) (a : AtomTree) → Proves program proof a → IsFit a

@@ -1,5 +1,5 @@
 -- What checking a log comes to can be told.
-use Rattle.std.proofs.Common.{◌≡◌, ◌⊎◌, ⊎_elim, ℕ, zero, suc, ◌<◌, Bool, true, false, ◌||◌, List, [], ◌∷◌, ◌++◌, map, length, Contains, Option, Some, None, refl, sym, subst, ◌∙◌, arith}
+use Rattle.std.proofs.Common.{◌≡◌, ◌⊎◌, ⊎_elim, ℕ, suc, ◌<◌, Bool, ◌||◌, List, [], ◌∷◌, ◌++◌, map, length, Contains, Option, Some, None, sym, subst, ◌∙◌, arith}
 use Rattle.std.specs.Prelude.{slice_get, filter, IfSome, IsSomeAnd}
 use Rattle.std.specs.List.{AllByRecursion}
 use Rattle.cep_base.proofs.Elements.{all_at, both_all}
@@ -30,21 +30,18 @@ use Rattle.cep_log.specs.Legal.{IsHave, IsListing, IsStepOf, IsLogOf, IsLegalSte
 use Rattle.cep_check.specs.declared.cause.Cause.{Cause}
 use Rattle.cep_check.specs.declared.cause.Cause.TheVariants.{StartStage, StartState, OtherStage, NotContained, NotProved, TooHigh, NotQuiet, OverLimit, StageLine, MidState, NotEnded, EndState}
 use Rattle.cep_check.specs.declared.cause.Verdict.{Verdict}
-use Rattle.cep_check.specs.declared.cause.Verdict.TheVariants.{Accepted, Refused}
 use Rattle.cep_check.specs.Causes.{IsFirstDifference, IsFirstLack, IsStartCause, IsStepCause, IsEndCause, IsRefusedFrom, IsVerdict}
 use Rattle.cep_check.specs.Telling.{IsTellableCause, IsTellable}
 use Rattle.cep_check.proofs.Steps.{ready}
 
 -- what stands at a place stands within the list
 at_within : {A : Type 0} (xs : List A) (n : ℕ) (x : A) → slice_get xs n ≡ Some x → n < length xs
-at_within [] n x at = absurd cc
-at_within (y ∷ xs) zero x at = omega arith
-at_within (y ∷ xs) (suc n) x at = let rest = at_within xs n x at in omega arith
+at_within (y ∷ xs) (suc n) x at = grind (arith, at_within xs n x)
+at_within xs n x at = grind arith
 
 -- a number that is not 0
 some_number : (n : ℕ) → (0 ≡ n → ⊥) → 0 < n
-some_number zero apart = absurd (apart refl)
-some_number (suc n) apart = omega arith
+some_number n apart = grind arith
 
 -- Each atom of the state has a text.
 abbrev AreWritable : Parts → Multiset → Type 0
@@ -60,8 +57,7 @@ all_passing P test [] all = tt
 all_passing P test (premise ∷ premises) all = grind (arith, all_passing P test premises all.1, all.1, all.0)
 
 some_held : (t : Bool) (n m : ℕ) → m ≡ held t n → 0 < m → 0 < n
-some_held true n m e some = omega arith
-some_held false n m e some = omega arith
+some_held t n m e some = grind arith
 
 module _ (bags : BagLaws) (types : TypeLaws) (comes_from : ComesFrom) (program : Parts) (kept : IsProgram program) where
   start_writable : AreWritable program program.start
@@ -145,5 +141,4 @@ module _ (bags : BagLaws) (types : TypeLaws) (comes_from : ComesFrom) (program :
       refused
 
   pub verdict_told : (log : Log) (verdict : Verdict) → IsLogOf program log → IsVerdict program log verdict → IsTellable program verdict
-  verdict_told log (Accepted steps) of_program is = tt
-  verdict_told log (Refused line cause) of_program is = grind (arith, start_told, from_told, start_writable, log.steps, of_program.steps)
+  verdict_told log verdict of_program is = grind (arith, start_told, from_told, start_writable)

@@ -23,10 +23,6 @@ refused_end program log [] old last line cause legal line_is comes = (line_is, s
 refused_end program log (step ∷ steps) old last line cause legal line_is comes = inr (legal.0, legal.1, refused_end program log steps legal.0 last line cause legal.2 line_is comes)
 
 module _ (program : Parts) (log : Log) (of_program : IsLogOf program log) (stage : log.stage ≡ program.start_stage) (start : log.start ≡ finite.entries program.start) where
-  -- a step is not legal
-  pub verdict_refused : (old : Spot) (line : ℕ) (cause : Cause) → old ≡ start_spot program → IsRefusedFrom program log old log.steps line cause → IsVerdict program log (Refused line cause)
-  verdict_refused old line cause same refused = inr (stage, start, subst (λ (spot : Spot). IsRefusedFrom program log spot log.steps line cause) same refused)
-
   -- all steps are
   pub verdict_end : (old last : Spot) (verdict : Verdict) → old ≡ start_spot program → AreLegalSteps program log.height log.steps old last → IsEndVerdict program log last verdict → IsVerdict program log verdict
   verdict_end old last (Accepted steps) same done ends = (
