@@ -1,5 +1,5 @@
 -- What is written of a question is remarks: lines that a transcript passes over.
-use Rattle.std.proofs.Common.{◌≡◌, ◌≢◌, ℕ, ◌+◌, List, [], ◌∷◌, ◌++◌, length, append-nil, refl, sym, ap, ◌∙◌, arith}
+use Rattle.std.proofs.Common.{◌≡◌, ◌≢◌, ℕ, ◌+◌, List, [], ◌∷◌, ◌++◌, length, append-nil, refl, sym, ap, arith}
 use Rattle.std.specs.Prelude.{codes, decimal}
 use Rattle.std.specs.List.{AllByRecursion}
 use Rattle.std.proofs.lemmas.Grind.{flat_map-append}
@@ -15,11 +15,11 @@ use Rattle.cep_lines.specs.Lines.{line, offer_line, offer_lines}
 use Rattle.cep_log.specs.Transcript.{IsPassedOver, IsOneLine}
 use Rattle.cep_log.specs.Written.{IsRemark}
 use Rattle.cep_log.specs.Holding.{AreRemarks}
-use Rattle.cep_choice.specs.TypedLine.{Cut, Ended, Last, Nothing, Full, ReadsLine}
+use Rattle.cep_choice.specs.TypedLine.{Cut, Nothing, Full, ReadsLine}
 use Rattle.cep_run.specs.declared.choice.Choice.{Choice}
 use Rattle.cep_run.specs.declared.settings.Settings.{Settings}
 use Rattle.cep_run.specs.Choice.{room_after, no_line, Hears, chosen, again, no_more, no_room}
-use Rattle.cep_run.specs.Deciding.{Supply, How, Heard, Decides}
+use Rattle.cep_run.specs.Deciding.{Supply, How, Decides}
 use Rattle.cep_step.specs.Deeds.{Position}
 use Rattle.cep_run.specs.Run.{Question, IsQuestion}
 use Rattle.cep_run.specs.Dialogue.{asking_line, asked_events, written_bytes}
@@ -60,10 +60,7 @@ written_ins [] = refl
 written_ins (byte ∷ bytes) = written_ins bytes
 
 reads_remarks : (room : ℕ) (come : List ℕ) (events : List Event) (cut : Cut) (rest : List ℕ) (taken : ℕ) → ReadsLine room come events cut rest taken → AreRemarks (written_bytes events)
-reads_remarks room come events (Ended text) rest taken reads = no_remarks _ (ap written_bytes reads.3 ∙ written_ins (text ++ 10 ∷ []))
-reads_remarks room come events (Last text) rest taken reads = no_remarks _ (rw (reads.5, written_both (ins text) (End ∷ []), written_ins text) refl)
-reads_remarks room come events Nothing rest taken reads = no_remarks _ (ap written_bytes reads.3)
-reads_remarks room come events (Full bytes) rest taken reads = no_remarks _ (ap written_bytes reads.3 ∙ written_ins bytes)
+reads_remarks room come events cut rest taken reads = grind (arith, no_remarks, written_ins, written_both)
 
 -- what was heard, with the answers to lines that choose nothing
 pub heard_remarks : (n : ℕ) {come rest : List ℕ} {taken taken' : ℕ} {events : List Event} {choice : Choice} → Hears n come taken events choice rest taken' → AreRemarks (written_bytes events)
@@ -85,9 +82,7 @@ both_one one other here there = both_all (λ byte. (byte ≢ 10) × (byte ≢ 13
 module _ (program : Parts) (numbers : (number : ℕ) → IsOneLine (decimal number)) (offers_one : (offer : Offer) → IsOfferOf program offer → IsOneLine (offer_text program offer)) where
   -- a line with a number and an offer
   pub numbered_remark : (word : List ℕ) (number : ℕ) (offer : Offer) → IsOneLine word → IsOfferOf program offer → IsPassedOver (word ++ decimal number ++ codes " " ++ offer_text program offer) → AreRemarks (line (word ++ decimal number ++ codes " " ++ offer_text program offer))
-  numbered_remark word number offer one is passed =
-      let start = both_one (word ++ decimal number) (codes " ") (both_one word (decimal number) one (numbers number)) (grind arith) in
-      line_remark (word ++ decimal number ++ codes " " ++ offer_text program offer) (both_one (word ++ decimal number ++ codes " ") (offer_text program offer) start (offers_one offer is)) passed
+  numbered_remark word number offer one is passed = grind (arith, both_one, line_remark)
 
   pub offers_remarks : (place : ℕ) (offers : List Offer) → AllByRecursion (IsOfferOf program) offers → AreRemarks (offer_lines program place offers)
   unfolding offer_lines offer_line
@@ -96,9 +91,7 @@ module _ (program : Parts) (numbers : (number : ℕ) → IsOneLine (decimal numb
 
   asked_remarks : (asking : List ℕ) → AreRemarks asking → (seed stage group : ℕ) (offers : List Offer) (from to : Supply) (how : How) (choice : Choice) → AllByRecursion (IsOfferOf program) offers → Decides program seed stage group (length offers) from how choice to
       → AreRemarks (written_bytes (asked_events asking program offers how))
-  asked_remarks asking are seed stage group offers from to (Heard events) choice all decides =
-      said_both (outs (offer_lines program 1 offers ++ asking)) events (said_outs _ (both_remarks (offer_lines program 1 offers) asking (offers_remarks 1 offers all) are)) (heard_remarks (length offers) decides.1)
-  asked_remarks asking are seed stage group offers from to how choice all decides = said_outs (offer_lines program 1 offers) (offers_remarks 1 offers all)
+  asked_remarks asking are seed stage group offers from to how choice all decides = grind (arith, said_both, said_outs, both_remarks, offers_remarks, heard_remarks)
 
   pub question_remarks : (asking : List ℕ) → AreRemarks asking → (settings : Settings) (at : Position) (from : Supply) (asked : Question) (to : Supply) → IsQuestion program settings at from asked to → AreRemarks (written_bytes (asked_events asking program asked.offers asked.how))
   question_remarks asking are settings at from asked to is =

@@ -1,5 +1,5 @@
 -- The backward premises of an offer that applies: they may be asked, and each has a derivation.
-use Rattle.std.proofs.Common.{◌≡◌, ⊎_elim, ℕ, zero, suc, ◌+◌, ◌<◌, Bool, true, false, ◌&&◌, List, [], ◌∷◌, ◌++◌, length, take, Option, Some, None, refl, sym, ap, subst, ◌∙◌, arith, Contains}
+use Rattle.std.proofs.Common.{◌≡◌, ⊎_elim, ℕ, zero, suc, ◌+◌, ◌<◌, Bool, true, ◌&&◌, List, [], ◌∷◌, ◌++◌, length, take, Some, refl, sym, subst, ◌∙◌, arith, Contains}
 use Rattle.std.specs.Prelude.{slice_get, IsSome}
 use Rattle.std.specs.List.{AllByRecursion}
 use Rattle.std.proofs.lemmas.List.{length-map}
@@ -17,7 +17,7 @@ use Rattle.cep_rule.specs.Typing.{IsTyped, IsBackward, AreValues}
 use Rattle.cep_rule.specs.TypeLaws.{TypeLaws}
 use Rattle.cep_rule.specs.Groundness.{Known, nothing, is_known, are_known, positions_known, known_after, known_after_all, CallsAt, IsBad, IsGrounded}
 use Rattle.cep_rule.specs.Instances.{given, full_instance, full_instances}
-use Rattle.cep_rule.specs.Derivations.{ProofTree, Proves, IsDerivable}
+use Rattle.cep_rule.specs.Derivations.{ProofTree, IsDerivable}
 use Rattle.cep_rule.specs.Offers.{Applies}
 use Rattle.cep_rule.specs.Program.{IsProgram}
 use Rattle.cep_rule.specs.Steps.{AreProofs}
@@ -27,9 +27,8 @@ use Rattle.cep_run.specs.Turn.{IsProofWithin}
 -- Values that are given
 
 pub value_given : (values : List Tree) (v : ℕ) → v < length values → IsSome (value_of (given values) v)
-value_given [] v within = absurd (omega (arith, within))
-value_given (t ∷ values) zero within = refl
 value_given (t ∷ values) (suc v) within = value_given values v (omega (arith, within))
+value_given values v within = grind arith
 
 mutual
   occurs_within : (n : ℕ) (t : Tree) (v : ℕ) → IsInRange n t → Occurs v t → v < n
@@ -44,8 +43,7 @@ pub all_valued : (values : List Tree) (a : AtomTree) → IsAtomInRange (length v
 all_valued values a within v occurs = value_given values v (occurs_among_within (length values) a.args v within occurs)
 
 both : (a b : Bool) → a ≡ true → b ≡ true → (a && b) ≡ true
-both true b p q = q
-both false b p q = cc
+both a b p q = grind arith
 
 mutual
   term_known : (values : List Tree) (t : Tree) → IsInRange (length values) t → is_known (has_value (given values)) t ≡ true
@@ -63,9 +61,8 @@ positions_most values known (more t rest) within zero e = term_known values t wi
 positions_most values known (more t rest) within (suc i) e = positions_most values known rest within.1 i e
 
 called : (pairs : ℕ → Known → Type 0) (known : Known) (goals : List AtomTree) (i : ℕ) (goal : AtomTree) → slice_get goals i ≡ Some goal → ((any : Known) → pairs goal.pred (positions_known any goal.args)) → CallsAt pairs known goals i
-called pairs known [] i goal is each = none_some goal is
-called pairs known (g ∷ goals) zero goal is each = subst (λ (h : AtomTree). pairs h.pred (positions_known known h.args)) (sym (some_same g goal is)) (each known)
 called pairs known (g ∷ goals) (suc i) goal is each = called pairs (known_after known g) goals i goal is each
+called pairs known goals i goal is each = grind (arith, none_some, some_same)
 
 -- that no more pairs are bad where more positions are known
 abbrev pub AreNoWorse : Type 0
@@ -73,19 +70,12 @@ AreNoWorse = (clauses : List ClauseTree) (pred : ℕ) (few many : Known) → ((i
 
 -- values of the right types are ground
 pub ground_values : (cons : List Con) (kinds : List ℕ) (values : List Tree) → AreValues cons kinds values → AllByRecursion IsGround values
-ground_values cons [] [] are = tt
-ground_values cons [] (t ∷ values) are = absurd are
-ground_values cons (sort ∷ kinds) [] are = absurd are
 ground_values cons (sort ∷ kinds) (t ∷ values) are = (are.0.ground, ground_values cons kinds values are.1)
+ground_values cons kinds values are = grind arith
 
 pub ground_given : (values : List Tree) → AllByRecursion IsGround values → AreGroundValues (given values)
-ground_given [] all v t e = none_some t (sym (none_at v) ∙ e)
-  where
-    none_at : (v : ℕ) → value_of [] v ≡ None
-    none_at zero = refl
-    none_at (suc v) = refl
-ground_given (u ∷ values) all zero t e = subst IsGround (some_same u t e) all.0
 ground_given (u ∷ values) all (suc v) t e = ground_given values all.1 v t e
+ground_given values all v t e = grind (arith, some_same)
 
 module _ (types : TypeLaws) (program : Parts) (height : ℕ) (offer : Offer) (rule : Rule) (kept : IsProgram program) (numbered : slice_get program.rules offer.rule ≡ Some rule) (values : AreValues program.signature.cons rule.kinds offer.values) where
   typed_at : (i : ℕ) (goal : AtomTree) → slice_get rule.backs i ≡ Some goal → IsTyped program.signature rule.kinds goal
@@ -129,11 +119,7 @@ module _ (program : Parts) (height : ℕ) (state : Multiset) (offer : Offer) (ru
 
 -- the known values answer it
 known_answers : (program : Parts) (height : ℕ) (goal : AtomTree) (known : Values) → HasValues known goal → IsDerivable program height (atom_instance known goal) → IsAnswer program height goal known known
-known_answers program height goal known has derivable = record {
-  atom = atom_instance known goal;
-  meets = record { equal = refl; kept = λ v t e. e; set = has; others = λ v never. refl; as_many = refl };
-  derivable = derivable;
-}
+known_answers program height goal known has derivable = record { atom = atom_instance known goal; meets = record { equal = refl; kept = λ v t e. e; set = has; others = λ v never. refl; as_many = refl }; derivable = derivable }
 
 some_within : {A : Type 0} (xs : List A) (x : A) → Contains xs x → 0 < length xs
 some_within xs x there = omega (arith, there.1)
@@ -147,29 +133,18 @@ abbrev pub AreAlike : Type 0
 AreAlike = (x y : Values) (a : AtomTree) → ((v : ℕ) → OccursIn v a → value_of x v ≡ value_of y v) → atom_instance x a ≡ atom_instance y a
 
 pub same_goal : AreAlike → (program : Parts) (height : ℕ) (goal : AtomTree) (known values : Values) → HasValues known goal → IsAnswer program height goal known values → atom_instance values goal ≡ atom_instance known goal
-same_goal alike program height goal known values has answer = alike values known goal (λ v occurs. by v (value_of known v) refl (has v occurs))
-  where
-    by : (v : ℕ) (o : Option Tree) → value_of known v ≡ o → IsSome o → value_of values v ≡ value_of known v
-    by v None e some = cc
-    by v (Some t) e some = answer.meets.kept v t e ∙ sym e
+same_goal alike program height goal known values has answer = alike values known goal (λ v occurs. grind (arith, has v occurs, answer.meets.kept v))
 
 -- the lowest derivation is within the height
 pub is_within : (program : Parts) (height : ℕ) (a b : AtomTree) (proof : ProofTree) → a ≡ b → IsLowestProof program proof a → IsDerivable program height b → IsProofWithin program height b proof
-is_within program height a b proof same lowest derivable =
-    let less = lowest.lowest derivable.proof (subst (λ c. Proves program derivable.proof c) (sym same) derivable.proves) in
-    let low = derivable.low in
-    record { proves = subst (λ c. Proves program proof c) same lowest.proves; low = omega (arith, less, low) }
+is_within program height a b proof same lowest derivable = grind (arith, lowest.lowest, derivable.proof, derivable.proves, derivable.low, lowest.proves)
 
 -- Derivations one after another
 
 proofs_next : (program : Parts) (height : ℕ) (proofs : List ProofTree) (atoms : List AtomTree) (proof : ProofTree) (a : AtomTree) → AreProofs program height proofs atoms → IsProofWithin program height a proof → AreProofs program height (proofs ++ proof ∷ []) (atoms ++ a ∷ [])
-proofs_next program height [] [] proof a are is = (is.proves, is.low, tt)
-proofs_next program height (p ∷ proofs) (b ∷ atoms) proof a are is = (are.0, are.1, proofs_next program height proofs atoms proof a are.2 is)
-proofs_next program height [] (b ∷ atoms) proof a are is = absurd are
-proofs_next program height (p ∷ proofs) [] proof a are is = absurd are
+proofs_next program height (p ∷ proofs) (b ∷ atoms) proof a are is = grind (arith, proofs_next program height proofs atoms proof a are.2 is)
+proofs_next program height proofs atoms proof a are is = grind arith
 
 pub one_proof_more : (program : Parts) (height : ℕ) (values : List Tree) (backs : List AtomTree) (i : ℕ) (goal : AtomTree) (proofs : List ProofTree) (proof : ProofTree) → slice_get backs i ≡ Some goal
     → AreProofs program height proofs (full_instances values (take i backs)) → IsProofWithin program height (atom_instance (given values) goal) proof → AreProofs program height (proofs ++ proof ∷ []) (full_instances values (take (i + 1) backs))
-one_proof_more program height values backs i goal proofs proof is before one =
-    subst (AreProofs program height (proofs ++ proof ∷ [])) (sym (ap (full_instances values) (take_next backs i goal is) ∙ map_last (full_instance values) (take i backs) goal))
-    (proofs_next program height proofs (full_instances values (take i backs)) proof (full_instance values goal) before one)
+one_proof_more program height values backs i goal proofs proof is before one = grind (arith, take_next backs i goal is, map_last (full_instance values) (take i backs) goal, proofs_next program height proofs (full_instances values (take i backs)) proof (full_instance values goal) before one)

@@ -101,16 +101,11 @@ module _ (n : ℕ) where
   hears_on {come} {taken} {events} {rest} (line_cut short) = short_on come taken events rest short
   hears_on {come} {taken} {events} {rest} (answer_cut cut line more size first reads is none whole) =
       let later = hears_there n rest (taken + more) in
-      let missing = outs (drop size no_line) in
-      let said : events ++ (missing ++ later.events) ≡ first ++ (outs no_line ++ later.events) =
-      ap (λ es. es ++ (missing ++ later.events)) whole ∙ append_assoc first (outs (take size no_line)) (missing ++ later.events)
-      ∙ ap (λ es. first ++ es) (sym (append_assoc (outs (take size no_line)) missing later.events) ∙ ap (λ es. es ++ later.events) (outs_cut size no_line)) in
-      record { more = missing ++ later.events; left = later.rest; whole = (later.choice, later.all, again cut line rest more first later.events reads is none later.hears said) }
+      let said : events ++ (outs (drop size no_line) ++ later.events) ≡ first ++ (outs no_line ++ later.events) = rw (whole, append_assoc first (outs (take size no_line)), ← append_assoc (outs (take size no_line)) (outs (drop size no_line)) later.events, outs_cut size no_line) refl in
+      record { more = outs (drop size no_line) ++ later.events; left = later.rest; whole = (later.choice, later.all, again cut line rest more first later.events reads is none later.hears said) }
   hears_on {come} {taken} {events} {rest} (behind_bad cut line between more first others reads is none behind whole) =
       let later = hears_on behind in
-      let said : events ++ later.more ≡ first ++ (outs no_line ++ (others ++ later.more)) =
-      ap (λ es. es ++ later.more) whole ∙ append_assoc first (outs no_line ++ others) later.more ∙ ap (λ es. first ++ es) (append_assoc (outs no_line) others later.more) in
-      record { more = later.more; left = later.left; whole = (later.whole.0, later.whole.1, again cut line between more first (others ++ later.more) reads is none later.whole.2 said) }
+      record { more = later.more; left = later.left; whole = (later.whole.0, later.whole.1, again cut line between more first (others ++ later.more) reads is none later.whole.2 (rw (whole, append_assoc first (outs no_line ++ others), append_assoc (outs no_line) others) refl)) }
 
 -- Questions
 

@@ -70,16 +70,8 @@ written_short {n} {room} {more} {size} {come} {first} bad put = record {
 module _ {n start taken : ℕ} {come : List ℕ} {first : List Event} {middle : List ℕ} (before : Awaits n start taken come first middle) where
   bad_behind : {more : ℕ} {others : List Event} {rest : List ℕ} → AfterBad n (room_after taken) more middle others rest → Awaits n start (taken + more) come (first ++ others) rest
   bad_behind {more} {others} {rest} bad = record {
-    goes_on = λ {later} {result} {end} {all} hears.
-        let written = ap (λ said. said ++ later) bad.answered ∙ append_assoc bad.first (outs no_line) later in
-        let line = bad.read in
-        let heard = before.goes_on (again line.0 line.2.0 rest more bad.first later line.1 line.2.1 line.2.2 hears written) in
-        subst (λ said. Hears n come start said result end all) (sym (append_assoc first others later)) heard;
-    goes_short = λ {later} {end} hears.
-        let written = ap (λ said. said ++ later) bad.answered ∙ append_assoc bad.first (outs no_line) later in
-        let line = bad.read in
-        let heard = before.goes_short (behind_bad line.0 line.2.0 rest more bad.first later line.1 line.2.1 line.2.2 hears written) in
-        subst (λ said. HearsFront n come start said end) (sym (append_assoc first others later)) heard;
+    goes_on = λ {later} {result} {end} {all} hears. rw append_assoc (before.goes_on (again bad.read.0 bad.read.2.0 rest more bad.first later bad.read.1 bad.read.2.1 bad.read.2.2 hears (ap (λ said. said ++ later) bad.answered ∙ append_assoc bad.first (outs no_line) later)));
+    goes_short = λ {later} {end} hears. rw append_assoc (before.goes_short (behind_bad bad.read.0 bad.read.2.0 rest more bad.first later bad.read.1 bad.read.2.1 bad.read.2.2 hears (ap (λ said. said ++ later) bad.answered ∙ append_assoc bad.first (outs no_line) later)));
   }
 
   -- the reading of a further line is cut short, or its answer is
@@ -105,12 +97,8 @@ module _ {n start taken : ℕ} {come : List ℕ} {first : List Event} {middle : 
 
 nothing_before : (n start : ℕ) (come : List ℕ) (events : List Event) (rest : List ℕ) → (events ≡ []) × (rest ≡ come) → Awaits n start start come events rest
 nothing_before n start come events rest same = record {
-  goes_on = λ {later} {result} {end} {all} hears.
-      let from = subst (λ bytes. Hears n bytes start later result end all) same.1 hears in
-      subst (λ said. Hears n come start (said ++ later) result end all) (sym same.0) from;
-  goes_short = λ {later} {end} hears.
-      let from = subst (λ bytes. HearsFront n bytes start later end) same.1 hears in
-      subst (λ said. HearsFront n come start (said ++ later) end) (sym same.0) from;
+  goes_on = λ {later} {result} {end} {all} hears. rw same.0 (rw same.1 at hears);
+  goes_short = λ {later} {end} hears. rw same.0 (rw same.1 at hears);
 }
 
 -- What the console did

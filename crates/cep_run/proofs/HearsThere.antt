@@ -1,5 +1,5 @@
 -- From the bytes to come some choice is heard.
-use Rattle.std.proofs.Common.{◌≡◌, ◌⊎◌, inl, inr, ℕ, zero, suc, ◌+◌, ◌<◌, List, [], ◌∷◌, ◌++◌, length, length-append, refl, sym, ap, arith}
+use Rattle.std.proofs.Common.{◌≡◌, ◌⊎◌, inl, inr, ℕ, zero, suc, ◌+◌, ◌<◌, List, [], ◌∷◌, ◌++◌, length, length-append, refl, ap, arith}
 use Rattle.std.specs.Prelude.{decimal}
 use Rattle.std.proofs.lemmas.Bool.{cases_eq}
 use Rattle.std.proofs.lemmas.Slice.Eq.{bytes_eq-Decides}
@@ -29,13 +29,10 @@ none_more n line none other place chooses = grind (arith, cases_eq place (suc n)
 
 -- a line chooses a place among n, or none
 pub chooses_or_not : (n : ℕ) (line : List ℕ) → ((place : ℕ) × Chooses n line place) ⊎ ChoosesNone n line
-chooses_or_not zero line = inr (λ place chooses. let some = chooses.0 in let within = chooses.1 in omega arith)
+chooses_or_not zero line = inr (λ place chooses. omega (arith, chooses.0, chooses.1))
 chooses_or_not (suc n) line = elim (chooses_or_not n line) [
-  | inl some ↦ inl (some.0, (some.1.0, (let within = some.1.1 in omega arith), some.1.2))
-  | inr none ↦ elim (spells_or_not line (suc n)) [
-    | inl spells ↦ inl (suc n, ((omega arith), (omega arith), spells))
-    | inr other ↦ inr (none_more n line none other)
-  ]
+  | inl some ↦ inl (some.0, (some.1.0, omega (arith, some.1.1), some.1.2))
+  | inr none ↦ elim (spells_or_not line (suc n)) [ inl spells ↦ inl (suc n, (omega arith, omega arith, spells)) | inr other ↦ inr (none_more n line none other) ]
 ]
 
 -- One line
@@ -82,10 +79,7 @@ one_more room byte come other (Full bytes) events rest taken reads = record {
 -- and it says that byte before
 pub one_more-says : (room byte : ℕ) (come : List ℕ) (other : byte ≡ 10 → ⊥) (cut : Cut) (events : List Event) (rest : List ℕ) (taken : ℕ) (reads : ReadsLine room come events cut rest taken) → (one_more room byte come other cut events rest taken reads).events ≡ In byte ∷ events
 unfolding one_more
-one_more-says room byte come other (Ended line) events rest taken reads = ap (λ es. In byte ∷ es) (sym reads.3)
-one_more-says room byte come other (Last line) events rest taken reads = ap (λ es. In byte ∷ es) (sym reads.5)
-one_more-says room byte come other Nothing events rest taken reads = ap (λ es. In byte ∷ es) (sym reads.3)
-one_more-says room byte come other (Full bytes) events rest taken reads = ap (λ es. In byte ∷ es) (sym reads.3)
+one_more-says room byte come other cut events rest taken reads = grind arith
 
 pub line_there : (room : ℕ) (come : List ℕ) → HasLine room come
 line_there zero come = record { events = []; cut = Full []; rest = come; taken = 0; reads = (refl, tt, refl, refl, refl) }

@@ -1,18 +1,16 @@
 -- A run is told in one way but for its derivations, and in one way where no rule has a backward premise.
-use Rattle.std.proofs.Common.{◌≡◌, ℕ, List, [], ◌∷◌, ◌++◌, map, refl, sym, ap, ◌∙◌, subst}
+use Rattle.std.proofs.Common.{◌≡◌, ℕ, List, [], ◌∷◌, map, refl, sym, ap, ◌∙◌, subst, arith}
 use Rattle.std.specs.List.{AllByRecursion}
 use Rattle.cep_base.specs.declared.console.Event.{Event}
-use Rattle.cep_base.specs.Talk.{outs}
 use Rattle.cep_rule.specs.declared.parts.Parts.{Parts}
 use Rattle.cep_rule.specs.Derivations.{ProofTree}
 use Rattle.cep_rule.specs.Instances.{full_instances}
 use Rattle.cep_rule.specs.Steps.{AreProofs}
 use Rattle.cep_run.specs.declared.settings.Settings.{Settings}
 use Rattle.cep_run.specs.Deciding.{Supply}
-use Rattle.cep_lines.specs.Lines.{header}
 use Rattle.cep_step.specs.Deeds.{Position, start_of}
 use Rattle.cep_run.specs.Run.{whole_supply, Turn, Ending, IsTurn, AreTurns, Run, unproved}
-use Rattle.cep_run.specs.Dialogue.{events_of, Dialogue}
+use Rattle.cep_run.specs.Dialogue.{Dialogue}
 use Rattle.cep_run.proofs.Turns.{all_at}
 
 -- nothing is proved of no atoms
@@ -43,10 +41,7 @@ module _ (program : Parts) (settings : Settings) (one : IsOneRun program setting
 
     bare_turns : (at : Position) (from : Supply) (turns : List Turn) (last : Position) (to : Supply) → AreTurns program settings at from turns last to → map unproved turns ≡ turns
     bare_turns at from [] last to done = refl
-    bare_turns at from (turn ∷ turns) last to done =
-        let first = bare_turn at from turn done.0 in
-        let others = bare_turns turn.deed.after turn.left turns last to done.1 in
-        λ i. first i ∷ others i
+    bare_turns at from (turn ∷ turns) last to done = λ i. bare_turn at from turn done.0 i ∷ bare_turns turn.deed.after turn.left turns last to done.1 i
 
   pub one_whole : (come : List ℕ) (turns turns' : List Turn) (ending ending' : Ending) (events events' : List Event) (rest rest' : List ℕ) → AllByRecursion (λ rule. rule.backs ≡ []) program.rules
       → Dialogue program settings come turns ending events rest → Dialogue program settings come turns' ending' events' rest' → events ≡ events'
@@ -54,7 +49,4 @@ module _ (program : Parts) (settings : Settings) (one : IsOneRun program setting
       let same = one (start_of program) (whole_supply come) turns turns' ending ending' said.left said'.left said.run said'.run in
       let run = said.run in
       let run' = said'.run in
-      let turns_are : turns ≡ turns' = sym (bare_turns plain (start_of program) (whole_supply come) turns run.last run.between run.done) ∙ same.0 ∙ bare_turns plain (start_of program) (whole_supply come) turns' run'.last run'.between run'.done in
-      let endings = same.1 in
-      let told : events_of program turns ending ≡ events_of program turns' ending' = λ i. events_of program (turns_are i) (endings i) in
-      said.whole ∙ ap (λ es. outs (header program settings.height) ++ es) told ∙ sym said'.whole
+      grind (arith, said.whole, said'.whole, same.0, same.1, bare_turns plain (start_of program) (whole_supply come) turns run.last run.between run.done, bare_turns plain (start_of program) (whole_supply come) turns' run'.last run'.between run'.done)

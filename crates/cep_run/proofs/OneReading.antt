@@ -1,5 +1,5 @@
 -- What is typed for one choice is heard in one way.
-use Rattle.std.proofs.Common.{◌≡◌, inl, inr, ℕ, ◌+◌, ◌<◌, ◌≤◌, ◌^◌, List, [], ◌∷◌, ◌++◌, length, length-append, refl, sym, ap, ◌∙◌, subst, arith}
+use Rattle.std.proofs.Common.{◌≡◌, ℕ, ◌+◌, ◌<◌, ◌≤◌, ◌^◌, List, [], ◌∷◌, ◌++◌, length, length-append, refl, sym, ap, ◌∙◌, subst, arith}
 use Rattle.std.proofs.lemmas.List.{append-nil, append_cancel_right}
 use Rattle.std.proofs.Math.Seq.{take-append_seam, drop-append_seam}
 use Rattle.std.proofs.lemmas.Str.Parse.{digit_from_value}
@@ -98,19 +98,7 @@ plain_or_closed place other small same = digits_or_CR (decimal other) (subst (Al
 
 -- a line chooses one place
 one_place : (n : ℕ) (line : List ℕ) (place other : ℕ) → n < 2 ^ 32 → Chooses n line place → Chooses n line other → place ≡ other
-one_place n line place other small chooses chooses' =
-    let within : place < 2 ^ 64 = omega (arith, chooses.1) in
-    let within' : other < 2 ^ 64 = omega (arith, chooses'.1) in
-    elim chooses.2 [
-      | inl plain ↦ elim chooses'.2 [
-        | inl plain' ↦ decimal_injective place other within within' (sym plain ∙ plain')
-        | inr closed' ↦ absurd (plain_or_closed place other within (sym plain ∙ closed'))
-      ]
-      | inr closed ↦ elim chooses'.2 [
-        | inl plain' ↦ absurd (plain_or_closed other place within' (sym plain' ∙ closed))
-        | inr closed' ↦ decimal_injective place other within within' (append_cancel_right (decimal place) (decimal other) (13 ∷ []) (sym closed ∙ closed'))
-      ]
-    ]
+one_place n line place other small chooses chooses' = grind (arith, decimal_injective place other, plain_or_closed place other, plain_or_closed other place, append_cancel_right (decimal place) (decimal other) (13 ∷ []), chooses.1, chooses.2, chooses'.1, chooses'.2)
 
 -- one reading gives one line
 one_line : (cut cut' : Cut) (line other : List ℕ) → cut ≡ cut' → IsLine cut line → IsLine cut' other → line ≡ other

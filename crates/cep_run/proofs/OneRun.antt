@@ -1,5 +1,5 @@
 -- What is typed, and the seed, determine the run.
-use Rattle.std.proofs.Common.{◌≡◌, ◌⊎◌, ℕ, ◌+◌, ◌<◌, ◌^◌, List, [], ◌∷◌, length, map, inl, inr, refl, sym, ap, ◌∙◌, subst, arith, Option, None, Some}
+use Rattle.std.proofs.Common.{◌≡◌, ◌⊎◌, ℕ, ◌<◌, ◌^◌, List, [], ◌∷◌, length, map, inl, inr, refl, sym, ap, ◌∙◌, subst, arith, Option, None, Some}
 use Rattle.cep_term.specs.Tree.{Tree}
 use Rattle.cep_term.specs.Multiset.{Multiset}
 use Rattle.cep_rule.specs.declared.signature.Signature.{Signature}
@@ -22,7 +22,7 @@ use Rattle.cep_step.specs.declared.limit.Limit.{Limit}
 use Rattle.cep_step.specs.declared.limit.Limit.TheVariants as limit
 use Rattle.cep_step.specs.Passing.{Passes}
 use Rattle.cep_base.specs.declared.limits.TheConstants.{MOST_OFFERS}
-use Rattle.cep_run.specs.Run.{Question, Turn, Ending, IsQuestion, IsChosen, IsTurn, AreTurns, EndsAt, quiet_end, turns_end, offers_end, input_end, typed_end, atom_end, state_end, Run, unproved}
+use Rattle.cep_run.specs.Run.{Question, Turn, Ending, IsQuestion, IsChosen, IsTurn, AreTurns, EndsAt, Run, unproved}
 use Rattle.cep_run.specs.Turn.{limit_word, IsOfferedHere}
 use Rattle.cep_run.proofs.OneReading.{one_hearing}
 use Rattle.cep_run.proofs.TurnSteps.{steps_here, counted_here}
@@ -43,12 +43,7 @@ pub record SameDecision (how how' : How) (choice choice' : Choice) (to to' : Sup
   pub supplies : to ≡ to'
 
 one_decision : (program : Parts) (seed stage group n : ℕ) → n < 2 ^ 32 → (from : Supply) (how how' : How) (choice choice' : Choice) (to to' : Supply) → Decides program seed stage group n from how choice to → Decides program seed stage group n from how' choice' to' → SameDecision how how' choice choice' to to'
-one_decision program seed stage group n small from (Heard events) (Heard events') choice choice' to to' is is' =
-    let same = one_hearing n small is.1 is'.1 in
-    let come = same.left in
-    let taken = same.many in
-    let drawn = is.2 ∙ sym is'.2 in
-    record { hows = ap Heard same.said; choices = same.choices; supplies = λ i. record { come = come i; taken = taken i; drawn = drawn i } }
+one_decision program seed stage group n small from (Heard events) (Heard events') choice choice' to to' is is' = let same = one_hearing n small is.1 is'.1 in grind (arith, same.said, same.choices, same.left, same.many, is.2, is'.2)
 one_decision program seed stage group n small from how how' choice choice' to to' is is' = grind arith
 
 -- two choices are of the same offer, of the same rule
@@ -58,11 +53,7 @@ record SameChoice (offer offer' : Offer) (rule rule' : Rule) : Type 0 where
 
 -- the offer at a place is one, of one rule
 one_choice : (program : Parts) (question : Question) (offer offer' : Offer) (rule rule' : Rule) → IsChosen program question offer rule → IsChosen program question offer' rule' → SameChoice offer offer' rule rule'
-one_choice program question offer offer' rule rule' is is' =
-    let next : is.place + 1 ≡ is'.place + 1 = cc (is.chosen, is'.chosen) in
-    let places : is.place ≡ is'.place = omega (arith, next) in
-    let one : offer ≡ offer' = cc (places, is.at_place, is'.at_place) in
-    record { offers = one; rules = cc (one, is.of_rule, is'.of_rule) }
+one_choice program question offer offer' rule rule' is is' = grind (arith, is.chosen, is'.chosen, is.at_place, is'.at_place, is.of_rule, is'.of_rule)
 
 pub record SameQuestion (question question' : Question) (to to' : Supply) : Type 0 where
   pub questions : question ≡ question'
@@ -75,29 +66,19 @@ module _ (one_list : (program : Parts) (height : ℕ) (state : Multiset) (group 
   one_asked : (at : Position) (group group' : ℕ) (offers offers' : List Offer)
       → IsAsked program settings.height at.spot.state at.spot.stage group → IsAsked program settings.height at.spot.state at.spot.stage group'
       → AreOffers program settings.height at.spot.state group offers → AreOffers program settings.height at.spot.state group' offers' → offers ≡ offers'
-  one_asked at group group' offers offers' asked asked' are are' =
-      one_list program settings.height at.spot.state group offers offers' are
-      (subst (λ g. AreOffers program settings.height at.spot.state g offers') (one_group program settings.height at.spot.state at.spot.stage group' group asked' asked) are')
+  one_asked at group group' offers offers' asked asked' are are' = one_list program settings.height at.spot.state group offers offers' are (rw (one_group program settings.height at.spot.state at.spot.stage group' group asked' asked) at are')
 
   -- one question is asked at a position, and it is answered in one way
   pub one_question : (at : Position) (from : Supply) (question question' : Question) (to to' : Supply) → IsQuestion program settings at from question to → IsQuestion program settings at from question' to' → SameQuestion question question' to to'
   one_question at from question question' to to' is is' =
       let groups = one_group program settings.height at.spot.state at.spot.stage question.group question'.group is.asked is'.asked in
       let offers = one_asked at question.group question'.group question.offers question'.offers is.asked is'.asked is.offered is'.offered in
-      let few = is.few in
-      let decided = subst (λ n. Decides program settings.seed at.spot.stage question.group n from question'.how question'.choice to') (ap length (sym offers))
-      (subst (λ g. Decides program settings.seed at.spot.stage g (length question'.offers) from question'.how question'.choice to') (sym groups) is'.decided) in
-      let same = one_decision program settings.seed at.spot.stage question.group (length question.offers) (omega (arith, few)) from question.how question'.how question.choice question'.choice to to' is.decided decided in
-      let hows = same.hows in
-      let choices = same.choices in
-      record { questions = λ i. record { group = groups i; offers = offers i; how = hows i; choice = choices i }; supplies = same.supplies }
+      let same = one_decision program settings.seed at.spot.stage question.group (length question.offers) (omega (arith, is.few)) from question.how question'.how question.choice question'.choice to to' is.decided (rw (groups, offers) is'.decided) in
+      record { questions = grind (arith, groups, offers, same.hows, same.choices); supplies = same.supplies }
 
   -- a step leads to one spot
   pub one_spot : (rule : Rule) (values : List Tree) (old one other : Spot) → StepsTo program rule values old one → StepsTo program rule values old other → one ≡ other
-  one_spot rule values old one other is is' =
-      let states = one_step program.signature rule values old.state one.state other.state is.step is'.step in
-      let stages = is.stage ∙ sym is'.stage in
-      λ i. record { stage = stages i; state = states i }
+  one_spot rule values old one other is is' = grind (arith, one_step program.signature rule values old.state one.state other.state is.step is'.step, is.stage, is'.stage)
 
   -- one turn is done at a position, but for its derivations
   pub record SameTurn (turn turn' : Turn) : Type 0 where
@@ -110,19 +91,10 @@ module _ (one_list : (program : Parts) (height : ℕ) (state : Multiset) (group 
       let asked = one_question at from turn.question turn'.question turn.left turn'.left is.asks is'.asks in
       let one = turn.deed in
       let other = turn'.deed in
-      let chosen = one_choice program turn.question one.offer other.offer one.rule other.rule is.chosen (subst (λ q. IsChosen program q other.offer other.rule) (sym asked.questions) is'.chosen) in
-      let steps = subst (λ r. StepsTo program r one.offer.values at.spot other.after.spot) (sym chosen.rules)
-      (subst (λ (o : Offer). StepsTo program other.rule o.values at.spot other.after.spot) (sym chosen.offers) (steps_here program settings at from turn' is')) in
-      let spots = one_spot one.rule one.offer.values at.spot one.after.spot other.after.spot (steps_here program settings at from turn is) steps in
-      let counts = counted_here program settings at from turn is ∙ sym (counted_here program settings at from turn' is') in
-      let afters : one.after ≡ other.after = λ i. record { spot = spots i; turns = counts i } in
-      let befores = is.here ∙ sym is'.here in
-      let questions = asked.questions in
-      let lefts = asked.supplies in
-      let offers = chosen.offers in
-      let rules = chosen.rules in
-      let deeds : (unproved turn).deed ≡ (unproved turn').deed = λ i. record { before = befores i; offer = offers i; rule = rules i; proofs = []; after = afters i } in
-      record { turns = λ i. record { question = questions i; deed = deeds i; left = lefts i }; afters = afters; lefts = lefts }
+      let chosen = one_choice program turn.question one.offer other.offer one.rule other.rule is.chosen (rw asked.questions is'.chosen) in
+      let spots = one_spot one.rule one.offer.values at.spot one.after.spot other.after.spot (steps_here program settings at from turn is) (rw (chosen.rules, chosen.offers) (steps_here program settings at from turn' is')) in
+      let afters : one.after ≡ other.after = grind (arith, spots, counted_here program settings at from turn is, counted_here program settings at from turn' is') in
+      record { turns = grind (arith, asked.questions, asked.supplies, chosen.offers, chosen.rules, is.here, is'.here, afters); afters = afters; lefts = asked.supplies }
 
   -- a step that is done passes no limit
   pub done_or_passes : {X : Type 0} (rule : Rule) (values : List Tree) (old new : Spot) (passed : Limit) → StepsTo program rule values old new → Passes program.signature rule values old.state passed → X
@@ -150,13 +122,7 @@ module _ (one_list : (program : Parts) (height : ℕ) (state : Multiset) (group 
   Ways at from word asked to = ((asked ≡ None) × (to ≡ from) × Unasked at word) ⊎ ((question : Question) × (asked ≡ Some question) × IsQuestion program settings at from question to × Nowhere at question word)
 
   way : (at : Position) (from : Supply) {word : EndWord} {asked : Option Question} {to : Supply} → EndsAt program settings at from word asked to → Ways at from word asked to
-  way at from (quiet_end is left) = inl (refl, left, inl (refl, is))
-  way at from (turns_end {group = group} asks over left) = inl (refl, left, inr (inl (refl, (group, asks), over)))
-  way at from (offers_end {group = group} {offers = offers} remain asks are many left) = inl (refl, left, inr (inr (refl, remain, (group, offers, asks, are, many))))
-  way at from (input_end {question = question} asks none) = inr (question, refl, asks, inl (refl, none))
-  way at from (typed_end {question = question} asks full) = inr (question, refl, asks, inr (inl (refl, full)))
-  way at from (atom_end {question = question} {offer = offer} {rule = rule} asks chosen passes) = inr (question, refl, asks, inr (inr (limit.Atom, offer, rule, refl, chosen, passes)))
-  way at from (state_end {question = question} {offer = offer} {rule = rule} asks chosen passes) = inr (question, refl, asks, inr (inr (limit.State, offer, rule, refl, chosen, passes)))
+  way at from arg2 = grind arith
 
   -- where offers are asked about, no run ends unasked
   offered_or_ends : {X : Type 0} {at : Position} {group : ℕ} {offers : List Offer} (word : EndWord) → IsOfferedHere program settings at group offers → Unasked at word → X
@@ -180,8 +146,7 @@ module _ (one_list : (program : Parts) (height : ℕ) (state : Multiset) (group 
   one_nowhere : (at : Position) (question : Question) (word word' : EndWord) → Nowhere at question word → Nowhere at question word' → word ≡ word'
   one_nowhere at question word word' (inr (inr (passed, offer, rule, named, chosen, passes))) (inr (inr (passed', offer', rule', named', chosen', passes'))) =
       let same = one_choice program question offer' offer rule' rule chosen' chosen in
-      let passes_too = subst (λ (r : Rule). Passes program.signature r offer.values at.spot.state passed') same.rules (subst (λ (o : Offer). Passes program.signature rule' o.values at.spot.state passed') same.offers passes') in
-      named ∙ ap limit_word (one_limit rule offer.values at.spot.state passed passed' passes passes_too) ∙ sym named'
+      grind (arith, named, named', one_limit rule offer.values at.spot.state passed passed' passes (rw (same.rules, same.offers) at passes'))
   one_nowhere at question word word' is is' = grind arith
 
   -- where a turn is done, no run ends
@@ -191,10 +156,8 @@ module _ (one_list : (program : Parts) (height : ℕ) (state : Multiset) (group 
     leads (inl none) = absurd (cc (is.chosen.chosen, none.1))
     leads (inr (inl full)) = absurd (cc (is.chosen.chosen, full.1))
     leads (inr (inr (passed, offer, rule, named, chosen, passes))) =
-        let deed = turn.deed in
-        let same = one_choice program turn.question offer deed.offer rule deed.rule chosen is.chosen in
-        done_or_passes deed.rule deed.offer.values at.spot deed.after.spot passed (steps_here program settings at from turn is)
-        (subst (λ (r : Rule). Passes program.signature r deed.offer.values at.spot.state passed) same.rules (subst (λ (o : Offer). Passes program.signature rule o.values at.spot.state passed) same.offers passes))
+        let same = one_choice program turn.question offer turn.deed.offer rule turn.deed.rule chosen is.chosen in
+        done_or_passes turn.deed.rule turn.deed.offer.values at.spot turn.deed.after.spot passed (steps_here program settings at from turn is) (rw (same.rules, same.offers) at passes)
 
     by : Ways at from word asked to → X
     by (inl (none, left, unasked)) = asked_or_ends at from turn.question turn.left word is.asks unasked
@@ -231,29 +194,17 @@ module _ (one_list : (program : Parts) (height : ℕ) (state : Multiset) (group 
       → AreTurns program settings at from turns last between → AreTurns program settings at from turns' last' between'
       → EndsAt program settings last between word asked to → EndsAt program settings last' between' word' asked' to'
       → SameRun turns turns' last last' word word' asked asked' to to'
-  one_run_of at from [] [] last last' between between' word word' asked asked' to to' done done' ends ends' = record {
-    turns_are = refl;
-    lasts = done.0 ∙ sym done'.0;
-    end = one_end at from word word' asked asked' to to'
-        (rw (← done.0, ← done.1) ends) (rw (← done'.0, ← done'.1) ends');
-  }
-  one_run_of at from [] (turn' ∷ turns') last last' between between' word word' asked asked' to to' done done' ends ends' =
-      turn_or_end at from turn' word asked to done'.0 (rw (← done.0, ← done.1) ends)
-  one_run_of at from (turn ∷ turns) [] last last' between between' word word' asked asked' to to' done done' ends ends' =
-      turn_or_end at from turn word' asked' to' done.0 (rw (← done'.0, ← done'.1) ends')
+  one_run_of at from [] [] last last' between between' word word' asked asked' to to' done done' ends ends' =
+      record { turns_are = refl; lasts = done.0 ∙ sym done'.0; end = one_end at from word word' asked asked' to to' (rw (← done.0, ← done.1) ends) (rw (← done'.0, ← done'.1) ends') }
+  one_run_of at from [] (turn' ∷ turns') last last' between between' word word' asked asked' to to' done done' ends ends' = turn_or_end at from turn' word asked to done'.0 (rw (← done.0, ← done.1) ends)
+  one_run_of at from (turn ∷ turns) [] last last' between between' word word' asked asked' to to' done done' ends ends' = turn_or_end at from turn word' asked' to' done.0 (rw (← done'.0, ← done'.1) ends')
   one_run_of at from (turn ∷ turns) (turn' ∷ turns') last last' between between' word word' asked asked' to to' done done' ends ends' =
       let same = one_turn at from turn turn' done.0 done'.0 in
-      let later = one_run_of turn.deed.after turn.left turns turns' last last' between between' word word' asked asked' to to' done.1
-      (rw (same.afters, same.lefts) done'.1) ends ends' in
-      let first = same.turns in
-      let others = later.turns_are in
-      record { turns_are = λ i. first i ∷ others i; lasts = later.lasts; end = later.end }
+      let later = one_run_of turn.deed.after turn.left turns turns' last last' between between' word word' asked asked' to to' done.1 (rw (same.afters, same.lefts) done'.1) ends ends' in
+      record { turns_are = grind (arith, same.turns, later.turns_are); lasts = later.lasts; end = later.end }
 
   -- one run: the same turns but for derivations, the same ending, and the same supply left
   pub one_run : (at : Position) (from : Supply) (turns turns' : List Turn) (ending ending' : Ending) (to to' : Supply) → Run program settings at from turns ending to → Run program settings at from turns' ending' to' → (map unproved turns ≡ map unproved turns') × (ending ≡ ending') × (to ≡ to')
   one_run at from turns turns' ending ending' to to' run run' =
       let same = one_run_of at from turns turns' run.last run'.last run.between run'.between ending.word ending'.word ending.question ending'.question to to' run.done run'.done run.ends run'.ends in
-      let words = same.end.words in
-      let questions = same.end.questions in
-      let states : ending.state ≡ ending'.state = run.state ∙ ap (λ place. place.spot.state) same.lasts ∙ sym run'.state in
-      (same.turns_are, (λ i. record { word = words i; state = states i; question = questions i }), same.end.supplies)
+      (same.turns_are, grind (arith, same.end.words, same.end.questions, same.lasts, run.state, run'.state), same.end.supplies)

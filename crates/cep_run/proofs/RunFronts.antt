@@ -1,5 +1,5 @@
 -- What a question says, and what a turn says, begins some run.
-use Rattle.std.proofs.Common.{◌≡◌, ◌⊎◌, inl, inr, ℕ, [], ◌∷◌, ◌++◌, length, append_assoc, Some, refl, sym, ap, ◌∙◌, subst, arith}
+use Rattle.std.proofs.Common.{◌≡◌, ◌⊎◌, inl, inr, ℕ, [], ◌∷◌, ◌++◌, length, append_assoc, Some, refl, sym, ap, ◌∙◌, arith}
 use Rattle.std.specs.List.{flat_map}
 use Rattle.cep_base.specs.Talk.{outs}
 use Rattle.cep_base.proofs.Lists.{holds_at}
@@ -11,7 +11,7 @@ use Rattle.cep_lines.specs.declared.end_word.EndWord.{EndWord}
 use Rattle.cep_run.specs.declared.choice.Choice.{Choice}
 use Rattle.cep_run.specs.declared.settings.Settings.{Settings}
 use Rattle.cep_run.specs.Choice.{IsChoiceWithin}
-use Rattle.cep_run.specs.Deciding.{Supply, How, Heard, Lone, Drawn, Decides}
+use Rattle.cep_run.specs.Deciding.{Supply, How, Decides}
 use Rattle.cep_step.specs.Deeds.{Position}
 use Rattle.cep_run.specs.Run.{Question, Turn, Ending, IsQuestion, IsTurn, EndsAt, Run}
 use Rattle.cep_run.specs.Dialogue.{question_events, last_events, turn_events, events_of}
@@ -24,13 +24,7 @@ use Rattle.cep_run.proofs.TurnSteps.{steps_here, counted_here}
 
 -- a place that is decided on is one of n
 decided_within : ThereLaws → (program : Parts) (seed stage group n : ℕ) (from : Supply) (how : How) (choice : Choice) (to : Supply) → Decides program seed stage group n from how choice to → IsChoiceWithin n choice
-decided_within laws program seed stage group n from (Heard events) choice to decides = heard_within n decides.1
-decided_within laws program seed stage group n from Lone choice to decides =
-    let one = decides.1 in
-    subst (IsChoiceWithin n) (sym decides.2) ((omega arith), (omega (arith, one)))
-decided_within laws program seed stage group n from Drawn choice to decides =
-    let several = decides.1 in
-    subst (IsChoiceWithin n) (sym decides.2) (laws.places seed from.drawn n (omega (arith, several)))
+decided_within laws program seed stage group n from how choice to decides = grind (arith, heard_within)
 
 module _ (laws : ThereLaws) (program : Parts) (settings : Settings) (kept : IsProgram program) where
   turn_on : (at : Position) (from : Supply) (turn : Turn) → IsTurn program settings at from turn → IsState program.signature turn.deed.after.spot.state → BeginsSome (IsRunOf program settings at) from (turn_events program turn)

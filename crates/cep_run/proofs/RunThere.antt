@@ -133,12 +133,9 @@ module _ (laws : ThereLaws) (program : Parts) (settings : Settings) (kept : IsPr
     by_choice NoMore is within = inr (record { word = Input; ends = input_end asks is })
     by_choice NoRoom is within = inr (record { word = Typed; ends = typed_end asks is })
     by_choice (Place place) is within =
-        let first = within.0 in
-        let last = within.1 in
-        let k = place - 1 in
-        let there = at_place question.offers k (omega (arith, first, last)) in
-        let is_offer : IsOffer program settings.height at.spot.state question.group there.0 = asks.offered.no_other there.0 (k, slice_get_within question.offers k there.0 there.1, get_or_from_slice_get question.offers k there.0 there.0 there.1) in
-        step_or_end k there.0 (is ∙ ap Place (omega (arith, first))) there.1 is_offer.applies
+        let there = at_place question.offers (place - 1) (omega (arith, within.0, within.1)) in
+        let is_offer : IsOffer program settings.height at.spot.state question.group there.0 = asks.offered.no_other there.0 (place - 1, slice_get_within question.offers (place - 1) there.0 there.1, get_or_from_slice_get question.offers (place - 1) there.0 there.0 there.1) in
+        step_or_end (place - 1) there.0 (is ∙ ap Place (omega (arith, within.0))) there.1 is_offer.applies
 
   turn_or_end : (at : Position) (from : Supply) → IsState program.signature at.spot.state → at.turns ≤ settings.limit → HasTurn at from ⊎ HasEnd at from
   turn_or_end at from is_state within = elim (asks_or_quiet at.spot.state at.spot.stage is_state) [
@@ -168,12 +165,7 @@ module _ (laws : ThereLaws) (program : Parts) (settings : Settings) (kept : IsPr
     pub run : Run program settings at from turns ending to
 
   ends_here : (at : Position) (from : Supply) → HasEnd at from → HasRun at from
-  ends_here at from end = record {
-    turns = [];
-    ending = record { word = end.word; state = at.spot.state; question = end.asked };
-    to = end.to;
-    run = record { last = at; between = from; done = (refl, refl); ends = end.ends; state = refl };
-  }
+  ends_here at from end = record { turns = []; ending = record { word = end.word; state = at.spot.state; question = end.asked }; to = end.to; run = record { last = at; between = from; done = (refl, refl); ends = end.ends; state = refl } }
 
   goes_on : (at : Position) (from : Supply) (turn : Turn) → IsTurn program settings at from turn → HasRun turn.deed.after turn.left → HasRun at from
   goes_on at from turn is later = record {
@@ -184,16 +176,12 @@ module _ (laws : ThereLaws) (program : Parts) (settings : Settings) (kept : IsPr
   }
 
   run_within : (most : ℕ) (at : Position) (from : Supply) → IsState program.signature at.spot.state → at.turns ≤ settings.limit → settings.limit ≤ at.turns + most → HasRun at from
-  run_within zero at from is_state within few = elim (turn_or_end at from is_state within) [
-    | inr end ↦ ends_here at from end
-    | inl turn ↦ (let remain = turn.is.asks.remain in absurd (omega (arith, few, remain)))
-  ]
+  run_within zero at from is_state within few = elim (turn_or_end at from is_state within) [ inr end ↦ ends_here at from end | inl turn ↦ absurd (omega (arith, few, turn.is.asks.remain)) ]
   run_within (suc most) at from is_state within few = elim (turn_or_end at from is_state within) [
     | inr end ↦ ends_here at from end
     | inl turn ↦ (
-        let remain = turn.is.asks.remain in
         let counted = counted_here program settings at from turn.turn turn.is in
-        goes_on at from turn.turn turn.is (run_within most turn.turn.deed.after turn.turn.left turn.state (omega (arith, remain, counted)) (omega (arith, few, counted)))
+        goes_on at from turn.turn turn.is (run_within most turn.turn.deed.after turn.turn.left turn.state (omega (arith, turn.is.asks.remain, counted)) (omega (arith, few, counted)))
         )
   ]
 

@@ -86,8 +86,7 @@ module _ (program : Parts) (settings : Settings) (start : Position) where
 -- what is counted otherwise, where that comes to the same
 pub still_counted : (program : Parts) (settings : Settings) (start at : Position) (spent : Spent) (offers : ℕ) (counts counts' : List Deed → Type 0) → ((deeds : List Deed) → counts deeds → counts' deeds)
     → (come : List ℕ) (events : List Event) (rest : List ℕ) → SoFar program settings counts start at spent offers come events rest → SoFar program settings counts' start at spent offers come events rest
-still_counted program settings start at spent offers counts counts' same come events rest so =
-    record { turns = so.turns; done = so.done; listed = so.listed; counted = same (deeds_of so.turns) so.counted; written = so.written }
+still_counted program settings start at spent offers counts counts' same come events rest so = grind (arith, so.turns, so.done, so.listed, so.counted, so.written)
 
 -- the run ends where its last turn does
 pub turn_stops : {C M : Type 0} (talk : C → Option (List Event)) (left : C → Option (List ℕ)) (old between new : C) (program : Parts) (settings : Settings) (start : Position) (config : Configuration M) (spent spent' : Spent) (offers : ℕ) (listing : List Offer)

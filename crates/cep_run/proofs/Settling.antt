@@ -1,5 +1,5 @@
 -- A choice is decided by the player, as a lone one, or by a word of the seed.
-use Rattle.std.proofs.Common.{◌≡◌, inl, inr, ℕ, ◌+◌, ◌<◌, ◌≤◌, List, ◌++◌, length, refl, sym, ap, ◌∙◌, arith}
+use Rattle.std.proofs.Common.{◌≡◌, ℕ, ◌+◌, ◌<◌, ◌≤◌, List, ◌++◌, length, refl, ap, arith}
 use Rattle.std.specs.Prelude.{Bool, false, IsTrue, ◌↔◌}
 use Rattle.std.proofs.lemmas.Bool.{cases_lt}
 use Rattle.cep_base.specs.declared.limits.TheConstants.{MOST_TYPED}
@@ -33,10 +33,7 @@ module _ (asking : List ℕ) (program : Parts) (seed stage group : ℕ) (offers 
       → (n ≡ 1 → (place ≡ 1) × (new ≡ old))
       → (1 < n → (seed : ℕ) → old.draw ≡ generator_behind seed old.drawn → (place ≡ place_drawn seed old.drawn n) × (new ≡ record { taken = old.taken; drawn = old.drawn + 1; draw = generator_behind seed (old.drawn + 1) }))
       → ¬ IsPlayers program stage group (length offers) → Maps (IsPut (offer_lines program 1 offers)) (Settles asking program seed stage group offers old (Place place) new)
-  unasked_settles old new place n turns many some spent lone drawn others = elim (cases_lt 1 n) [
-    | inl several ↦ let is = drawn several seed spent.draw in drawn_settles old new place others (rw many at several) (is.0 ∙ ap (place_drawn seed old.drawn) many) is.1
-    | inr few ↦ let one : n ≡ 1 = omega (arith, some, few) in let is = lone one in lone_settles old new place others (sym many ∙ one) is.0 is.1
-  ]
+  unasked_settles old new place n turns many some spent lone drawn others = grind (arith, cases_lt, drawn_settles, lone_settles, spent.draw, old.drawn)
 
 -- nobody decides, by the code's test
 pub nobody : (P : Type 0) (asked : Bool) → (IsTrue asked ↔ P) → asked ≡ false → ¬ P
@@ -50,15 +47,8 @@ pub unasked_spends : (seed turns n place : ℕ) (old new : Spent) → 0 < n → 
     → (n ≡ 1 → (place ≡ 1) × (new ≡ old))
     → (1 < n → (seed : ℕ) → old.draw ≡ generator_behind seed old.drawn → (place ≡ place_drawn seed old.drawn n) × (new ≡ record { taken = old.taken; drawn = old.drawn + 1; draw = generator_behind seed (old.drawn + 1) }))
     → HasSpent seed (turns + 1) new
-unasked_spends seed turns n place old new some spent lone drawn = elim (cases_lt 1 n) [
-  | inl several ↦ rw (drawn several seed spent.draw).1 (record { taken = spent.taken; drawn = omega (arith, spent.drawn); draw = refl })
-  | inr least ↦ rw (lone (omega (arith, some, least))).1 (record { taken = spent.taken; drawn = omega (arith, spent.drawn); draw = spent.draw })
-]
+unasked_spends seed turns n place old new some spent lone drawn = grind (arith, cases_lt, spent.draw, spent.taken, spent.drawn)
 
 -- nothing was spent yet
 pub nothing_spent : (seed turns : ℕ) (spent : Spent) → spent.taken ≡ 0 → spent.drawn ≡ 0 → spent.draw ≡ generator_behind seed 0 → HasSpent seed turns spent
-nothing_spent seed turns spent untaken undrawn fresh = record {
-  taken = omega (arith, untaken);
-  drawn = omega (arith, undrawn);
-  draw = fresh ∙ ap (generator_behind seed) (sym undrawn);
-}
+nothing_spent seed turns spent untaken undrawn fresh = grind (arith, untaken, undrawn, fresh)

@@ -1,5 +1,5 @@
 -- What a deed says can be written.
-use Rattle.std.proofs.Common.{◌≡◌, ℕ, ◌<◌, List, [], ◌∷◌, length, sym, subst}
+use Rattle.std.proofs.Common.{◌≡◌, ℕ, ◌<◌, List, ◌∷◌, length, sym, subst, arith}
 use Rattle.std.specs.Prelude.{slice_get, Some, IfSome, IsSomeAnd}
 use Rattle.std.specs.List.{AllByRecursion}
 use Rattle.cep_base.proofs.Lists.{holds_at}
@@ -25,6 +25,5 @@ next_in_range program n rule kept numbered = holds_at (λ (r : Rule). IfSome r.n
 
 -- what proves premises has the program's shape
 pub all_of_shape : ((program : Parts) (proof : ProofTree) (a : AtomTree) → Proves program proof a → IsProofOf program proof) → (program : Parts) (height : ℕ) (proofs : List ProofTree) (atoms : List AtomTree) → AreProofs program height proofs atoms → AllByRecursion (IsProofOf program) proofs
-all_of_shape shapes program height [] atoms are = tt
-all_of_shape shapes program height (proof ∷ proofs) [] are = absurd are
-all_of_shape shapes program height (proof ∷ proofs) (a ∷ atoms) are = (shapes program proof a are.0, all_of_shape shapes program height proofs atoms are.2)
+all_of_shape shapes program height (proof ∷ proofs) (a ∷ atoms) are = grind (arith, all_of_shape shapes program height proofs atoms are.2)
+all_of_shape shapes program height proofs atoms are = grind arith

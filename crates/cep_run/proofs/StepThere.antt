@@ -65,6 +65,4 @@ state_fits_or_not state = grind (arith, cases_lt MOST_COPIES (copies_in state), 
 -- atoms that are derivable have derivations
 pub proofs_there : (program : Parts) (height : ℕ) (atoms : List AtomTree) → AllByRecursion (IsDerivable program height) atoms → (proofs : List ProofTree) × AreProofs program height proofs atoms
 proofs_there program height [] all = ([], tt)
-proofs_there program height (a ∷ atoms) all =
-    let later = proofs_there program height atoms all.1 in
-    (all.0.proof ∷ later.0, (all.0.proves, all.0.low, later.1))
+proofs_there program height (a ∷ atoms) all = (all.0.proof ∷ (proofs_there program height atoms all.1).0, (all.0.proves, all.0.low, (proofs_there program height atoms all.1).1))

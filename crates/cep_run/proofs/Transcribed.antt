@@ -1,5 +1,5 @@
 -- What is written of a dialogue tells the deeds of its turns.
-use Rattle.std.proofs.Common.{ℕ, List, [], ◌∷◌, ◌++◌, append_assoc, refl, subst, Option, None, Some}
+use Rattle.std.proofs.Common.{ℕ, List, [], ◌∷◌, ◌++◌, append_assoc, refl, subst, Option, arith}
 use Rattle.std.specs.Prelude.{decimal}
 use Rattle.std.specs.List.{flat_map}
 use Rattle.cep_base.specs.declared.console.Event.{Event}
@@ -35,8 +35,7 @@ module _ (program : Parts) (numbers : (number : ℕ) → IsOneLine (decimal numb
       )
 
   last_told : (at : Position) (from : Supply) (asked : Option Question) (to : Supply) → LeftBy program settings at from asked to → AreRemarks (written_bytes (last_events program asked))
-  last_told at from None to left = no_remarks [] refl
-  last_told at from (Some asked) to asks = question_remarks program numbers offers_one asking_line asking_remark settings at from asked to asks
+  last_told at from asked to asks = grind (arith, no_remarks, question_remarks, asking_remark)
 
   pub run_told : (come : List ℕ) (turns : List Turn) (ending : Ending) (events : List Event) (rest : List ℕ) → (said : Dialogue program settings come turns ending events rest) → TellRun program settings.height (deeds_of turns) ending.word said.run.last.spot.state (written_bytes events)
   run_told come turns ending events rest said =

@@ -1,5 +1,5 @@
 -- What is done in turns are lawful deeds, and these are counted.
-use Rattle.std.proofs.Common.{◌≡◌, ◌⊎◌, ℕ, ◌+◌, List, [], ◌∷◌, length, inl, inr, sym, ◌∙◌, ap, subst, arith, Option, None, Some}
+use Rattle.std.proofs.Common.{◌≡◌, ◌⊎◌, ℕ, ◌+◌, List, [], ◌∷◌, length, sym, ◌∙◌, ap, subst, arith, Option, None, Some}
 use Rattle.std.proofs.lemmas.Option.{slice_get_within, get_or_from_slice_get}
 use Rattle.cep_term.specs.Multiset.{Multiset}
 use Rattle.cep_rule.specs.declared.rule.Rule.{Rule}
@@ -19,13 +19,12 @@ use Rattle.cep_step.specs.Passing.{Passes}
 use Rattle.cep_run.specs.declared.settings.Settings.{Settings}
 use Rattle.cep_run.specs.Deciding.{Supply}
 use Rattle.cep_step.specs.Deeds.{Position, Deed, AreDeeds}
-use Rattle.cep_run.specs.Run.{Question, Turn, deeds_of, IsQuestion, IsChosen, IsTurn, AreTurns, EndsAt, quiet_end, turns_end, offers_end, input_end, typed_end, atom_end, state_end}
+use Rattle.cep_run.specs.Run.{Question, Turn, deeds_of, IsQuestion, IsChosen, IsTurn, AreTurns, EndsAt, atom_end, state_end}
 use Rattle.cep_run.specs.Turn.{limit_word}
 
 -- a rule of the group that is asked is of the stage, or leaves it where nothing of its own applies
 pub in_turn : (program : Parts) (height : ℕ) (state : Multiset) (stage group of : ℕ) → of ≡ group → IsAsked program height state stage group → (of ≡ own_group stage) ⊎ ((of ≡ leaving_group stage) × ¬ HasOffer program height state (own_group stage))
-in_turn program height state stage group of same (inl own) = inl (same ∙ own.0)
-in_turn program height state stage group of same (inr leaving) = inr (same ∙ leaving.0, leaving.1)
+in_turn program height state stage group of same arg7 = grind arith
 
 -- the step by an offer that is chosen is one of the machine
 pub lawful_step : (program : Parts) (settings : Settings) (at : Position) (from : Supply) (question : Question) (to : Supply) → IsQuestion program settings at from question to
@@ -61,13 +60,7 @@ module _ (program : Parts) (settings : Settings) where
 
   -- a run ends quiet only where nothing applies
   pub quiet_here : (at : Position) (from : Supply) {word : EndWord} {asked : Option Question} {to : Supply} → word ≡ Quiet → EndsAt program settings at from word asked to → IsQuiet program settings.height at.spot.state at.spot.stage
-  quiet_here at from same (quiet_end is left) = is
-  quiet_here at from same (turns_end asks over left) = absurd (cc same)
-  quiet_here at from same (offers_end remain asks are many left) = absurd (cc same)
-  quiet_here at from same (input_end asks none) = absurd (cc same)
-  quiet_here at from same (typed_end asks full) = absurd (cc same)
-  quiet_here at from same (atom_end asks chosen passes) = absurd (cc same)
-  quiet_here at from same (state_end asks chosen passes) = absurd (cc same)
+  quiet_here at from same arg3 = grind arith
 
   -- what is left after a run ended: all that was there, or what its last question leaves
   abbrev pub LeftBy : Position → Supply → Option Question → Supply → Type 0
@@ -75,13 +68,7 @@ module _ (program : Parts) (settings : Settings) where
   LeftBy at from (Some question) to = IsQuestion program settings at from question to
 
   pub left_by : (at : Position) (from : Supply) {word : EndWord} {asked : Option Question} {to : Supply} → EndsAt program settings at from word asked to → LeftBy at from asked to
-  left_by at from (quiet_end is left) = left
-  left_by at from (turns_end asks over left) = left
-  left_by at from (offers_end remain asks are many left) = left
-  left_by at from (input_end asks none) = asks
-  left_by at from (typed_end asks full) = asks
-  left_by at from (atom_end asks chosen passes) = asks
-  left_by at from (state_end asks chosen passes) = asks
+  left_by at from arg2 = grind arith
 
   -- a run ends where a step by the offer that is chosen passes a limit
   pub limit_end : (at : Position) (from to : Supply) (question : Question) (offer : Offer) (rule : Rule) → IsQuestion program settings at from question to → IsChosen program question offer rule → (passed : Limit) → Passes program.signature rule offer.values at.spot.state passed
@@ -90,9 +77,5 @@ module _ (program : Parts) (settings : Settings) where
   limit_end at from to question offer rule asks chosen limit.State passes = state_end asks chosen passes
 
 pub deeds_counted : (program : Parts) (height : ℕ) (at : Position) (deeds : List Deed) (last : Position) → AreDeeds program height at deeds last → last.turns ≡ at.turns + length deeds
-deeds_counted program height at [] last done = let same = ap (λ (here : Position). here.turns) done in omega (arith, same)
-deeds_counted program height at (deed ∷ deeds) last done =
-    let more = deeds_counted program height deed.after deeds last done.2 in
-    let here = ap (λ (place : Position). place.turns) done.0 in
-    let one = done.1.counted in
-    omega (arith, more, here, one)
+deeds_counted program height at (deed ∷ deeds) last done = grind (arith, deeds_counted program height deed.after deeds last done.2, deed.after, done.1.counted)
+deeds_counted program height at deeds last done = grind arith

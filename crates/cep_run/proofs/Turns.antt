@@ -1,5 +1,5 @@
 -- Each way through a turn is a turn of a run, or the end of one.
-use Rattle.std.proofs.Common.{◌≡◌, ℕ, zero, suc, ◌+◌, ◌*◌, ◌<◌, ◌≤◌, List, [], ◌∷◌, ◌++◌, length, append_assoc, get_or, inl, inr, refl, sym, ap, ◌∙◌, subst, arith, Option, None, Some, Bool, true, false}
+use Rattle.std.proofs.Common.{◌≡◌, ℕ, suc, ◌+◌, ◌*◌, ◌<◌, ◌≤◌, List, [], ◌∷◌, ◌++◌, length, append_assoc, get_or, inl, inr, refl, sym, ap, ◌∙◌, subst, arith, Option, None, Some, Bool, true, false}
 use Rattle.std.specs.Prelude.{slice_get, All, IsSomeAnd, IsTrue, ◌↔◌}
 use Rattle.std.specs.List.{AllByRecursion}
 use Rattle.std.proofs.lemmas.List.{append-nil, get_or_default}
@@ -48,17 +48,13 @@ use Rattle.cep_run.proofs.TurnSteps.{lawful_step, limit_end}
 use Rattle.cep_run.proofs.Fronts.{front_of_front, put_on}
 use Rattle.cep_run.proofs.Unheard.{Short, Joins, Maps, left_then, settles_left, act_left}
 
-none_some : {A B : Type 0} (x : A) → ◌≡◌ {A = Option A} None (Some x) → B
-none_some x e = cc
-
 some_same : {A : Type 0} (x y : A) → Some x ≡ Some y → x ≡ y
 some_same x y e = cc
 
 -- what holds of all items holds of the one at a place
 pub all_at : {A : Type 0} (P : A → Type 0) (xs : List A) → AllByRecursion P xs → (k : ℕ) (x : A) → slice_get xs k ≡ Some x → P x
-all_at P [] all k x is = none_some x is
-all_at P (y ∷ xs) all zero x is = subst P (let same : Some y ≡ Some x = is in cc) all.0
 all_at P (y ∷ xs) all (suc k) x is = all_at P xs all.1 k x is
+all_at P xs all k x is = grind arith
 
 -- Offers
 
@@ -83,8 +79,7 @@ some_offers here = elim here.asked [
 
 -- the group that is asked has a list
 pub group_listed : (lists : List (List Offer)) (stage group : ℕ) → IsAskedIn lists stage group → 2 * stage + 1 < length lists → group < length lists
-group_listed lists stage group (inl own) low = omega (arith, own.0)
-group_listed lists stage group (inr leaving) low = omega (arith, leaving.0)
+group_listed lists stage group arg3 low = grind arith
 
 -- what is asked, by the lists of a matcher, whatever view of it is counted
 module _ {M : Type 0} (height_held : M → ℕ) (state_held : M → Multiset) (offers_held : M → List (List Offer)) (program : Parts) (settings : Settings) (config : Configuration M) (group : ℕ)
@@ -100,9 +95,7 @@ module _ {M : Type 0} (height_held : M → ℕ) (state_held : M → Multiset) (o
 
   -- or they are
   pub crowds_here : ok ≡ false → (from to : Supply) → to ≡ from → EndsAt program settings (position_of config) from Offers None to
-  crowds_here clear from to unspent =
-      let many : MOST_OFFERS < length (offers_of (offers_held seen) group) = grind arith in
-      offers_end remain (rw height at asked) are_offers (rw (sym view) many) unspent
+  crowds_here clear from to unspent = offers_end remain (rw height at asked) are_offers (rw (sym view) (grind arith)) unspent
 
 -- Steps
 
@@ -203,8 +196,7 @@ EndsBy program settings at choice word = (from : Supply) (question : Question) (
 -- a run ends before a question
 pub ends_unasked : {C : Type 0} (talk : C → Option (List Event)) (left : C → Option (List ℕ)) (console : C) (asking : List ℕ) (program : Parts) (settings : Settings) (at : Position) (spent : Spent) (word : EndWord)
     → ((from to : Supply) → to ≡ from → EndsAt program settings at from word None to) → Did talk left console console (Stops asking program settings at spent word spent)
-ends_unasked talk left console asking program settings at spent word ends = did_map talk left console console _ _
-    (λ come events rest same. record { asked = None; ends = ends (supply_with come spent) (supply_with rest spent) (ap (λ bytes. supply_with bytes spent) same.1); written = same.0 }) (did_same talk left console console refl refl)
+ends_unasked talk left console asking program settings at spent word ends = grind (arith, did_map, did_same talk left console console refl refl)
 
 module _ (asking : List ℕ) {program : Parts} {settings : Settings} {at : Position} {group : ℕ} {offers : List Offer} (here : IsOfferedHere program settings at group offers) (spent : Spent) where
   abbrev Settled : Choice → Spent → List ℕ → List Event → List ℕ → Type 0
@@ -284,10 +276,7 @@ pub whole_begun : {B : Type 0} (P : Supply → List Event → B → Type 0) (ask
     → ((from : Supply) (question : Question) (to : Supply) → IsQuestion program settings at from question to → BeginsSome P from (asked_events asking program question.offers question.how))
     → ((from : Supply) (turn : Turn) → IsTurn program settings at from turn → BeginsSome P from (asked_events asking program turn.question.offers turn.question.how ++ outs (lines_of_deed program turn.deed)))
     → Maps (Short (λ come. supply_with come spent) (IsQuestionOrTurn asking program settings at)) (Short (λ come. supply_with come spent) P)
-whole_begun P asking program settings at spent questions turns come events rest (begun, left) = (front_of_front P (supply_with come spent) events begun.more (by begun.whole), left) where
-  by : IsQuestionOrTurn asking program settings at (supply_with come spent) (events ++ begun.more) begun.left → BeginsSome P (supply_with come spent) (events ++ begun.more)
-  by (inl (question, asks, said)) = rw said (questions (supply_with come spent) question begun.left asks)
-  by (inr (turn, is, said)) = rw said (turns (supply_with come spent) turn is)
+whole_begun P asking program settings at spent questions turns come events rest arg11 = grind (arith, front_of_front, asks)
 
 -- what the choice of a place comes to is what the turn comes to
 pub turn_acted : {C M : Type 0} (talk : C → Option (List Event)) (left : C → Option (List ℕ)) (old between new : C) (asking : List ℕ) {program : Parts} {settings : Settings} (config : Configuration M) {group : ℕ} {offers : List Offer} (here : IsOfferedHere program settings (position_of config) group offers)

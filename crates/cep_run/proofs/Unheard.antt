@@ -1,5 +1,5 @@
 -- What is heard of a choice, a turn and a run is gone from the bytes to come.
-use Rattle.std.proofs.Common.{◌≡◌, inl, inr, ℕ, List, [], ◌∷◌, ◌++◌, length, take, append_assoc, append-nil, Option, None, Some, refl, sym, ap, ◌∙◌, subst}
+use Rattle.std.proofs.Common.{◌≡◌, ℕ, List, [], ◌∷◌, ◌++◌, length, take, append_assoc, append-nil, Option, refl, sym, ap, ◌∙◌, subst, arith}
 use Rattle.std.specs.List.{flat_map}
 use Rattle.cep_base.specs.declared.console.Event.{Event}
 use Rattle.cep_base.specs.declared.console.Event.TheVariants.{Out, In, End}
@@ -8,7 +8,7 @@ use Rattle.cep_rule.specs.declared.parts.Parts.{Parts}
 use Rattle.cep_rule.specs.declared.offer.Offer.{Offer}
 use Rattle.cep_choice.specs.TypedLine.{Cut, Ended, Last, Nothing, Full, ReadsLine}
 use Rattle.cep_lines.specs.declared.end_word.EndWord.{EndWord}
-use Rattle.cep_lines.specs.Lines.{deed_lines, offer_lines}
+use Rattle.cep_lines.specs.Lines.{offer_lines}
 use Rattle.cep_log.specs.Holding.{lines_of_deed}
 use Rattle.cep_run.specs.declared.choice.Choice.{Choice}
 use Rattle.cep_run.specs.declared.deciding.Spent.{Spent}
@@ -59,8 +59,7 @@ front_nil (byte ∷ first) others e = absurd (cc)
 
 -- one stretch after another
 pub left_then : (come : List ℕ) (first : List Event) (middle : List ℕ) (others : List Event) (rest : List ℕ) → LeavesUnheard come first middle → LeavesUnheard middle others rest → LeavesUnheard come (first ++ others) rest
-left_then come first middle others rest one two =
-    one ∙ ap (λ bytes. heard_bytes first ++ bytes) two ∙ sym (append_assoc (heard_bytes first) (heard_bytes others) rest) ∙ ap (λ bytes. bytes ++ rest) (sym (heard_append first others))
+left_then come first middle others rest one two = grind (arith, append_assoc, heard_append)
 
 -- nothing was heard
 pub unheard_left : (come : List ℕ) (events : List Event) (rest : List ℕ) → heard_bytes events ≡ [] → rest ≡ come → LeavesUnheard come events rest
@@ -88,9 +87,7 @@ bytes_left bytes come events rest heard first = first ∙ ap (λ all. all ++ res
 
 line_left : (room : ℕ) (come : List ℕ) (events : List Event) (cut : Cut) (rest : List ℕ) (taken : ℕ) → ReadsLine room come events cut rest taken → LeavesUnheard come events rest
 line_left room come events (Ended line) rest taken is = bytes_left (line ++ 10 ∷ []) come events rest (ap heard_bytes is.3 ∙ ins_heard (line ++ 10 ∷ [])) (is.0 ∙ sym (append_assoc line (10 ∷ []) rest))
-line_left room come events (Last line) rest taken is =
-    let heard : heard_bytes events ≡ line = ap heard_bytes is.5 ∙ heard_append (ins line) (End ∷ []) ∙ append-nil (heard_bytes (ins line)) ∙ ins_heard line in
-    bytes_left line come events rest heard (is.0 ∙ sym (ap (λ bytes. line ++ bytes) is.1 ∙ append-nil line))
+line_left room come events (Last line) rest taken is = bytes_left line come events rest (ap heard_bytes is.5 ∙ heard_append (ins line) (End ∷ []) ∙ append-nil (heard_bytes (ins line)) ∙ ins_heard line) (is.0 ∙ sym (ap (λ bytes. line ++ bytes) is.1 ∙ append-nil line))
 line_left room come events Nothing rest taken is = bytes_left [] come events rest (ap heard_bytes is.3) (is.0 ∙ sym is.1)
 line_left room come events (Full bytes) rest taken is = bytes_left bytes come events rest (ap heard_bytes is.3 ∙ ins_heard bytes) is.0
 
@@ -129,9 +126,7 @@ module _ (asking : List ℕ) (program : Parts) (seed stage group : ℕ) (offers 
 
 -- nothing was said of a step, or a prefix of its lines
 pub act_left : (program : Parts) (height : ℕ) (offers : List Offer) (place : ℕ) (old : Position) (come : List ℕ) (events : List Event) (rest : List ℕ) → BeginsAct program height offers place old come events rest → LeavesUnheard come events rest
-act_left program height offers place old come events rest (inl nothing) = outs_left [] come events rest nothing
-act_left program height offers place old come events rest (inr on) =
-    prefix_left (deed_lines program on.acts.offer on.acts.proofs on.acts.rule.next on.next.turns on.next.spot.state) come events on.more rest on.acts.written on.acts.untaken
+act_left program height offers place old come events rest arg8 = grind (arith, outs_left, prefix_left)
 
 module _ (asking : List ℕ) (program : Parts) (settings : Settings) where
   question_left : (at : Position) (from : Supply) (asked : Question) (to : Supply) → IsQuestion program settings at from asked to → LeavesUnheard from.come (asked_events asking program asked.offers asked.how) to.come
@@ -143,8 +138,7 @@ module _ (asking : List ℕ) (program : Parts) (settings : Settings) where
       left_then from.come (asked_events asking program turn.question.offers turn.question.how) turn.left.come (outs lines) turn.left.come (question_left at from turn.question turn.left is.asks) (outs_left lines turn.left.come (outs lines) turn.left.come (refl, refl))
 
   pub last_left : (at : Position) (from : Supply) (asked : Option Question) (to : Supply) → LeftBy program settings at from asked to → LeavesUnheard from.come (last_asked asking program asked) to.come
-  last_left at from None to left = ap (λ (supply : Supply). supply.come) (sym left)
-  last_left at from (Some asked) to asks = question_left at from asked to asks
+  last_left at from asked to asks = grind (arith, question_left)
 
 module _ (program : Parts) (settings : Settings) where
   turns_left : (at : Position) (from : Supply) (turns : List Turn) (last : Position) (to : Supply) → AreTurns program settings at from turns last to → LeavesUnheard from.come (flat_map (turn_events program) turns) to.come
