@@ -1,10 +1,9 @@
 // What the bodies of sections spell.
-use crate::fault::Fault;
-use crate::fault::Fault::Malformed;
+use crate::draft::Draft;
 use crate::texts::Texts;
-use std::alloc::AllocError;
 
-/// Adds what a body spells: its bytes, in which a backslash and what follows it stand for something else.
+/// Adds what a body spells: its bytes, in which a backslash and what follows it stand for something else. Answers whether the end of the
+/// body is the end of a line.
 ///
 /// | escape | spells |
 /// |---|---|
@@ -13,163 +12,108 @@ use std::alloc::AllocError;
 /// | `\<NAME>` | the text of this name |
 /// | `\[N\|BODY]` | the body N times, in which `\#` is how often it stands before, and `\]` a bracket |
 ///
-/// # Errors
-///
-/// The body has another escape, or an escape without an end.
-pub fn spell(texts: &Texts, body: &str, out: &mut Vec<u8>) -> Result<(), Fault> {
+/// The draft fails if the body has another escape, or an escape without an end.
+pub fn spell(texts: &Texts, body: &str, out: &mut Draft) -> bool {
     let mut rest = body;
     for _escape in 0..=body.len() {
         let Some((before, escape)) = rest.split_once('\\') else {
-            return put(rest, out);
+            out.put(rest.as_bytes());
+            return true;
         };
-        put(before, out)?;
+        out.put(before.as_bytes());
+        if escape.is_empty() {
+            return false;
+        }
         rest = match escape.strip_prefix('[') {
-            Some(repeated) => put_repeated(texts, repeated, out)?,
-            None => put_escape(texts, escape, 0, out)?,
+            Some(repeated) => put_repeated(texts, repeated, out),
+            None => put_escape(texts, escape, 0, out),
         };
     }
-    Ok(())
-}
-
-// Adds the bytes of a text.
-fn put(text: &str, out: &mut Vec<u8>) -> Result<(), Fault> {
-    Ok(out.extend_from_slice(text.as_bytes())?)
+    true
 }
 
 // Adds what a body without repeated ones spells, in which `\#` is this number.
-fn spell_once(texts: &Texts, body: &str, number: u64, out: &mut Vec<u8>) -> Result<(), Fault> {
+fn spell_once(texts: &Texts, body: &str, number: u64, out: &mut Draft) {
     let mut rest = body;
     for _escape in 0..=body.len() {
         let Some((before, escape)) = rest.split_once('\\') else {
-            return put(rest, out);
+            out.put(rest.as_bytes());
+            break;
         };
-        put(before, out)?;
-        rest = put_escape(texts, escape, number, out)?;
+        out.put(before.as_bytes());
+        rest = put_escape(texts, escape, number, out);
     }
-    Ok(())
 }
 
-// Adds a body as often as it says, and answers what follows its bracket.
-fn put_repeated<'a>(texts: &Texts, repeated: &'a str, out: &mut Vec<u8>) -> Result<&'a str, Fault> {
-    let mut inner = String::new(texts.alloc());
-    let rest = cut_repeated(repeated, &mut inner)?;
-    put_times(texts, inner.as_str(), out)?;
-    Ok(rest)
+// Adds a body as often as the number before it says, and answers what follows its bracket.
+fn put_repeated<'a>(texts: &Texts, repeated: &'a str, out: &mut Draft) -> &'a str {
+    let (inner, rest) = cut_repeated(repeated);
+    match inner.split_once('|') {
+        Some((times, body)) => {
+            for number in 0..number_of(times, out) {
+                spell_once(texts, body, number, out);
+            }
+        }
+        None => out.fail("a body that is repeated without a number or an end"),
+    }
+    rest
 }
 
-// Adds a body as often as the number before it says, each time with how often it stands before.
-fn put_times(texts: &Texts, repeated: &str, out: &mut Vec<u8>) -> Result<(), Fault> {
-    let Some((times, body)) = repeated.split_once('|') else {
-        return Err(Malformed("a body that is repeated without a number"));
-    };
-    for number in 0..number_of(times)? {
-        spell_once(texts, body, number, out)?;
+// What stands before the bracket that closes, and what follows it. Without such a bracket nothing stands before it.
+fn cut_repeated(repeated: &str) -> (&str, &str) {
+    let mut escapes = false;
+    for (i, &byte) in repeated.as_bytes().iter().enumerate() {
+        if byte == b']' && !escapes {
+            let (inner, rest) = repeated.split_at_checked(i).unwrap_or(("", repeated));
+            return (inner, rest.strip_prefix(']').unwrap_or(rest));
+        }
+        escapes = byte == b'\\';
     }
-    Ok(())
+    ("", "")
 }
 
 /// The number of its digits.
-pub fn number_of(digits: &str) -> Result<u64, Fault> {
+pub fn number_of(digits: &str, out: &mut Draft) -> u64 {
     match digits.parse::<u64>() {
-        Ok(number) => Ok(number),
-        Err(_) => Err(Malformed("no number")),
-    }
-}
-
-// Takes what stands before the bracket that closes, and answers what follows it.
-fn cut_repeated<'a>(repeated: &'a str, inner: &mut String) -> Result<&'a str, Fault> {
-    let mut rest = repeated;
-    for _bracket in 0..repeated.len() {
-        let Some((before, after)) = rest.split_once(']') else {
-            break;
-        };
-        rest = after;
-        if !take_part(before, inner)? {
-            return Ok(rest);
+        Ok(number) => number,
+        Err(_) => {
+            out.fail("no number");
+            0
         }
     }
-    Err(Malformed("a body that is repeated without an end"))
 }
-
-// Takes what stands before a bracket, and answers whether the bracket belongs to it.
-fn take_part(before: &str, inner: &mut String) -> Result<bool, AllocError> {
-    let open = before.strip_suffix('\\');
-    inner.push_str(open.unwrap_or(before))?;
-    if open.is_some() {
-        inner.push(']')?;
-    }
-    Ok(open.is_some())
-}
-
-// The letters of escapes of one byte.
-const LETTERS: [(char, u8); 5] = [
-    ('\n', 0),
-    ('\\', b'\\'),
-    ('n', b'\n'),
-    ('r', b'\r'),
-    ('t', b'\t'),
-];
 
 // Adds what an escape spells, and answers what follows it.
-fn put_escape<'a>(
-    texts: &Texts,
-    escape: &'a str,
-    number: u64,
-    out: &mut Vec<u8>,
-) -> Result<&'a str, Fault> {
-    if let Some(rest) = escape.strip_prefix('<') {
-        return put_text(texts, rest, out);
+fn put_escape<'a>(texts: &Texts, escape: &'a str, number: u64, out: &mut Draft) -> &'a str {
+    let (_, rest) = escape.split_at_checked(1).unwrap_or(("", ""));
+    match *escape.as_bytes().first().unwrap_or(&b'\n') {
+        b'<' => return put_text(texts, rest, out),
+        b'x' => return put_byte(rest, out),
+        b'#' => out.put_number(number),
+        b'n' => out.put(b"\n"),
+        b'r' => out.put(b"\r"),
+        b't' => out.put(b"\t"),
+        b'\\' => out.put(b"\\"),
+        b']' => out.put(b"]"),
+        b'\n' => {}
+        _ => out.fail("an escape that spells nothing"),
     }
-    if let Some(rest) = escape.strip_prefix('#') {
-        put_number(number, out)?;
-        return Ok(rest);
-    }
-    match escape.strip_prefix('x') {
-        Some(rest) => put_byte(rest, out),
-        None => put_letter(escape, out),
-    }
-}
-
-// Adds the digits of a number.
-fn put_number(number: u64, out: &mut Vec<u8>) -> Result<(), Fault> {
-    let digits = format!(in *out.allocator(); "{number}")?;
-    put(digits.as_str(), out)
-}
-
-// Adds the byte of a letter, of which the end of a line has none.
-fn put_letter<'a>(escape: &'a str, out: &mut Vec<u8>) -> Result<&'a str, Fault> {
-    for (letter, byte) in LETTERS {
-        if let Some(rest) = escape.strip_prefix(letter) {
-            if byte != 0 {
-                out.push(byte)?;
-            }
-            return Ok(rest);
-        }
-    }
-    if escape.is_empty() {
-        Ok(escape)
-    } else {
-        Err(Malformed("an escape that spells nothing"))
-    }
+    rest
 }
 
 // Adds the text of a name.
-fn put_text<'a>(texts: &Texts, escape: &'a str, out: &mut Vec<u8>) -> Result<&'a str, Fault> {
-    let Some((name, rest)) = escape.split_once('>') else {
-        return Err(Malformed("a name without an end"));
-    };
-    out.extend_from_slice(texts.get(name)?)?;
-    Ok(rest)
+fn put_text<'a>(texts: &Texts, escape: &'a str, out: &mut Draft) -> &'a str {
+    let (name, rest) = escape.split_once('>').unwrap_or((escape, ""));
+    texts.put(name, out);
+    rest
 }
 
 // Adds a byte by its two digits.
-fn put_byte<'a>(escape: &'a str, out: &mut Vec<u8>) -> Result<&'a str, Fault> {
-    let Some((digits, rest)) = escape.split_at_checked(2) else {
-        return Err(Malformed("a byte without digits"));
-    };
+fn put_byte<'a>(escape: &'a str, out: &mut Draft) -> &'a str {
+    let (digits, rest) = escape.split_at_checked(2).unwrap_or((escape, ""));
     match u8::from_str_radix(digits, 16) {
-        Ok(byte) => out.push(byte)?,
-        Err(_) => return Err(Malformed("the digits of a byte")),
+        Ok(byte) => out.put(&[byte]),
+        Err(_) => out.fail("the digits of a byte"),
     }
-    Ok(rest)
+    rest
 }

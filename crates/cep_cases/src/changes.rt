@@ -1,78 +1,34 @@
 // Texts with a change.
 use crate::bodies::{number_of, spell};
-use crate::fault::Fault;
-use crate::fault::Fault::Malformed;
+use crate::draft::Draft;
 use crate::texts::Texts;
-use std::alloc::{AllocError, Global};
 
-// What a body spells.
-fn spelled(texts: &Texts, body: &str) -> Result<Vec<u8>, Fault> {
-    let mut out = Vec::new(texts.alloc());
-    spell(texts, body, &mut out)?;
-    Ok(out)
-}
-
-// What stands in the place of a line: what is spelled after a space, as a line, or nothing.
-fn instead(texts: &Texts, body: &str) -> Result<Vec<u8>, Fault> {
-    let mut line = spelled(texts, body.strip_prefix(' ').unwrap_or(body))?;
-    if !body.is_empty() {
-        line.push(b'\n')?;
-    }
-    Ok(line)
-}
-
-// A text with this in the place of a line. Lines count from 1.
-fn with_line(
-    alloc: Global,
-    text: &[u8],
-    number: u64,
-    instead: &[u8],
-) -> Result<Vec<u8>, AllocError> {
-    let mut out = Vec::new(alloc);
-    let mut line = 1u64;
-    for &byte in text {
-        if line != number {
-            out.push(byte)?;
-        } else if byte == b'\n' {
-            out.extend_from_slice(instead)?;
+// The first lines of a text, so many of them, and the rest.
+fn cut_lines(text: &[u8], number: u64) -> (&[u8], &[u8]) {
+    let mut lines = 0u64;
+    for (i, &byte) in text.iter().enumerate() {
+        if lines == number {
+            return text.split_at_checked(i).unwrap_or((text, &[]));
         }
         if byte == b'\n' {
-            line = line.saturating_add(1);
+            lines = lines.saturating_add(1);
         }
     }
-    Ok(out)
+    (text, &[])
 }
 
-// The first lines of a text, so many of them.
-fn first_lines(alloc: Global, text: &[u8], number: u64) -> Result<Vec<u8>, AllocError> {
-    let mut out = Vec::new(alloc);
-    let mut line = 1u64;
-    for &byte in text {
-        if line <= number {
-            out.push(byte)?;
-        }
-        if byte == b'\n' {
-            line = line.saturating_add(1);
-        }
-    }
-    Ok(out)
-}
-
-// A text with a carriage return before each line feed.
-fn with_returns(alloc: Global, text: &[u8]) -> Result<Vec<u8>, AllocError> {
-    let mut out = Vec::new(alloc);
+// Adds a text with a carriage return before each line feed.
+fn put_returns(text: &[u8], out: &mut Draft) {
     for &byte in text {
         if byte == b'\n' {
-            out.push(b'\r')?;
+            out.put(b"\r");
         }
-        out.push(byte)?;
+        out.put(&[byte]);
     }
-    Ok(out)
 }
 
-// A text without the lines that begin with a question mark.
-fn record(alloc: Global, text: &[u8]) -> Result<Vec<u8>, AllocError> {
-    let mut out = Vec::new(alloc);
+// Adds a text without the lines that begin with a question mark.
+fn put_record(text: &[u8], out: &mut Draft) {
     let mut begins = true;
     let mut stays = true;
     for &byte in text {
@@ -80,68 +36,63 @@ fn record(alloc: Global, text: &[u8]) -> Result<Vec<u8>, AllocError> {
             stays = byte != b'?';
         }
         if stays {
-            out.push(byte)?;
+            out.put(&[byte]);
         }
         begins = byte == b'\n';
     }
-    Ok(out)
 }
 
-// A text with a part in the place of another, as `OLD => NEW` says.
-fn with_part(texts: &Texts, text: &[u8], parts: &str) -> Result<Vec<u8>, Fault> {
-    let Some((old, new)) = parts.split_once(" => ") else {
-        return Err(Malformed("a change of a part without an arrow"));
-    };
-    let old = spelled(texts, old)?;
-    let new = spelled(texts, new)?;
-    replaced(texts.alloc(), text, old.as_slice(), new.as_slice())
-}
-
-// A text with new bytes in the place of old ones, where these stand first.
-fn replaced(alloc: Global, text: &[u8], old: &[u8], new: &[u8]) -> Result<Vec<u8>, Fault> {
-    let (Ok(text), Ok(old)) = (str::from_utf8(text), str::from_utf8(old)) else {
-        return Err(Malformed("a change of a part where bytes are no text"));
-    };
-    match text.split_once(old) {
-        Some((before, after)) => Ok(joined(alloc, before.as_bytes(), new, after.as_bytes())?),
-        None => Err(Malformed("a part that is not there")),
-    }
-}
-
-// Three texts, one after another.
-fn joined(alloc: Global, one: &[u8], two: &[u8], three: &[u8]) -> Result<Vec<u8>, AllocError> {
-    let mut out = one.to_vec(alloc)?;
-    out.extend_from_slice(two)?;
-    out.extend_from_slice(three)?;
-    Ok(out)
-}
-
-// A text with what is spelled in the place of a line.
-fn with_instead(texts: &Texts, text: &[u8], number: u64, body: &str) -> Result<Vec<u8>, Fault> {
-    let instead = instead(texts, body)?;
-    Ok(with_line(texts.alloc(), text, number, instead.as_slice())?)
-}
-
-// A text with a change of a line, or its first lines.
-fn with_lines(texts: &Texts, text: &[u8], line: &str) -> Result<Vec<u8>, Fault> {
-    match line.split_once(" |") {
-        Some((number, body)) => with_instead(texts, text, number_of(number)?, body),
-        None => Ok(first_lines(texts.alloc(), text, number_of(line)?)?),
-    }
-}
-
-// A text with a change that one word names, if the line is such a word.
-fn with_word(alloc: Global, text: &[u8], line: &str) -> Option<Result<Vec<u8>, AllocError>> {
-    match line {
-        "-" => Some(text.to_vec(alloc)),
-        "returns" => Some(with_returns(alloc, text)),
-        "open" => Some(text.strip_suffix(b"\n").unwrap_or(text).to_vec(alloc)),
-        "record" => Some(record(alloc, text)),
+// What stands before and after a part of a text, where that stands first.
+fn cut_part<'a>(text: &'a [u8], part: &[u8]) -> Option<(&'a str, &'a str)> {
+    match (str::from_utf8(text), str::from_utf8(part)) {
+        (Ok(text), Ok(part)) => text.split_once(part),
         _ => None,
     }
 }
 
-/// A text with the change that a line names:
+// Adds a text with a part in the place of another, as `OLD => NEW` says.
+fn put_with_part(texts: &Texts, text: &[u8], parts: &str, out: &mut Draft) {
+    let (old, new) = parts.split_once(" => ").unwrap_or((parts, ""));
+    let mut part = Draft::new(texts.alloc());
+    spell(texts, old, &mut part);
+    out.fail_with(&part);
+    match cut_part(text, part.bytes()) {
+        Some((before, after)) => {
+            out.put(before.as_bytes());
+            spell(texts, new, out);
+            out.put(after.as_bytes());
+        }
+        None => out.fail("a part that is not there"),
+    }
+}
+
+// Adds a text with what is spelled after a space in the place of a line, or nothing there. Lines count from 1.
+fn put_with_line(texts: &Texts, text: &[u8], number: u64, body: &str, out: &mut Draft) {
+    let (before, rest) = cut_lines(text, number.saturating_sub(1));
+    let (line, after) = cut_lines(rest, 1);
+    out.put(before);
+    if line.ends_with(b"\n") && !body.is_empty() {
+        spell(texts, body.strip_prefix(' ').unwrap_or(body), out);
+        out.put(b"\n");
+    }
+    out.put(after);
+}
+
+// Adds a text with a change of a line, or its first lines.
+fn put_with_lines(texts: &Texts, text: &[u8], line: &str, out: &mut Draft) {
+    match line.split_once(" |") {
+        Some((number, body)) => {
+            let number = number_of(number, out);
+            put_with_line(texts, text, number, body, out);
+        }
+        None => {
+            let number = number_of(line, out);
+            out.put(cut_lines(text, number).0);
+        }
+    }
+}
+
+/// Adds a text with the change that a line names:
 ///
 /// | change | what it does |
 /// |---|---|
@@ -154,15 +105,16 @@ fn with_word(alloc: Global, text: &[u8], line: &str) -> Option<Result<Vec<u8>, A
 /// | `record` | leaves out each line that begins with a question mark |
 /// | `-` | nothing |
 ///
-/// # Errors
-///
-/// The line names none of these.
-pub fn changed(texts: &Texts, text: &[u8], line: &str) -> Result<Vec<u8>, Fault> {
-    if let Some(changed) = with_word(texts.alloc(), text, line) {
-        return Ok(changed?);
-    }
-    match line.strip_prefix("~ ") {
-        Some(parts) => with_part(texts, text, parts),
-        None => with_lines(texts, text, line),
+/// The draft fails if the line names none of these.
+pub fn put_changed(texts: &Texts, text: &[u8], line: &str, out: &mut Draft) {
+    match line {
+        "-" => out.put(text),
+        "returns" => put_returns(text, out),
+        "open" => out.put(text.strip_suffix(b"\n").unwrap_or(text)),
+        "record" => put_record(text, out),
+        _ => match line.strip_prefix("~ ") {
+            Some(parts) => put_with_part(texts, text, parts, out),
+            None => put_with_lines(texts, text, line, out),
+        },
     }
 }

@@ -1,16 +1,15 @@
 // The command over fakes of the outside.
 ghost use Rattle.std.specs.Prelude.{◌≡◌, ◌<◌};
 
-use crate::noting_shelf::NotingShelf;
 use cep_base::Steps;
-use cep_fakes::MemConsole;
+use cep_fakes::{MemConsole, MemShelf};
 use cep_play::ceptre;
 use std::alloc::{AllocError, Global};
 use std::marker::Brand;
 use std::sync::ledger::{Blank, Ledger};
 
-// The words of a line.
-fn words_of(alloc: Global, line: &str) -> Result<Vec<String>, AllocError> {
+/// The words of a line.
+pub fn words_of(alloc: Global, line: &str) -> Result<Vec<String>, AllocError> {
     let mut all = Vec::new(alloc);
     for word in line.split_whitespace() {
         all.push(String::from_str(alloc, word)?)?;
@@ -23,7 +22,7 @@ fn counted<L: Ledger>(
     alloc: Global,
     words: &[String],
     console: &mut MemConsole,
-    shelf: &mut NotingShelf,
+    shelf: &mut MemShelf,
     ledger: Blank,
 ) -> u8
     requires name { ledger.name ≡ L.name }
@@ -34,13 +33,12 @@ fn counted<L: Ledger>(
     ceptre(alloc, words, console, shelf, &mut steps)
 }
 
-/// The status of the command with the words of this line.
+/// The status of the command with these words.
 pub fn status(
     alloc: Global,
-    line: &str,
+    words: &[String],
     console: &mut MemConsole,
-    shelf: &mut NotingShelf,
-) -> Result<u8, AllocError> {
-    let words = words_of(alloc, line)?;
-    Ok(counted::<Brand>(alloc, &words, console, shelf, Blank::new(1)))
+    shelf: &mut MemShelf,
+) -> u8 {
+    counted::<Brand>(alloc, words, console, shelf, Blank::new(1))
 }

@@ -4,46 +4,57 @@
 mod bodies;
 mod changes;
 mod command;
-mod fault;
-mod noting_shelf;
+mod draft;
 mod player;
 mod sections;
 mod series;
 mod telling;
 mod texts;
 
-use bodies::number_of;
-use fault::Fault;
 use player::Player;
 use std::fs;
 use std::rt::Files;
 
-/// The name of the file that a line of the index says, and after it the most bytes of an output that is written out.
-fn entry(line: &str) -> Result<(&str, u64), Fault> {
-    match line.split_once(' ') {
-        Some((name, most)) => Ok((name, number_of(most)?)),
-        None => Err(Fault::Malformed("a line of the index")),
-    }
-}
-
-/// Runs the cases of a file, and writes what came of them, up to the case that is malformed if one is.
+/// Runs the cases of the file that a line of the index names, and writes what came of them. After the name stands the most bytes of an
+/// output that is written out.
+///
+/// # Errors
+///
+/// The file is not read, what came of it is not written, or a case says nothing: then what came of those before it was written.
 fn run_file<R: Files + Print + AllocGlobal>(
     rt: &R,
     player: &mut Player,
     line: &str,
-) -> Result<(), Fault> {
-    let (name, most) = entry(line)?;
-    let content = fs::read_to_string(rt, name)?;
-    let run = player.run_file(content.as_str(), most);
-    print!(rt; "{}", player.told())?;
-    run
+) -> Result<(), &'static str> {
+    let (name, most) = line.split_once(' ').unwrap_or((line, ""));
+    match fs::read_to_string(rt, name) {
+        Ok(content) => player.run_file(content.as_str(), most),
+        Err(_) => return Err("a file of cases is not read"),
+    }
+    if rt.write_all(player.told().bytes()).is_err() {
+        return Err("what came of the cases is not written");
+    }
+    match player.told().fault() {
+        Some(why) => Err(why),
+        None => Ok(()),
+    }
 }
 
-fn main(rt: HostRuntime) -> Result<(), Fault> {
-    let mut player = Player::new(rt.alloc());
-    let index = fs::read_to_string(&rt, "index")?;
+/// Runs the cases of the files that the index names.
+fn run_files<R: Files + Print + AllocGlobal>(
+    rt: &R,
+    player: &mut Player,
+) -> Result<(), &'static str> {
+    let Ok(index) = fs::read_to_string(rt, "index") else {
+        return Err("the index is not read");
+    };
     for line in index.lines() {
-        run_file(&rt, &mut player, line)?;
+        run_file(rt, player, line)?;
     }
     Ok(())
+}
+
+fn main(rt: HostRuntime) -> Result<(), &'static str> {
+    let mut player = Player::new(rt.alloc());
+    run_files(&rt, &mut player)
 }

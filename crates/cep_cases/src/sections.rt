@@ -1,7 +1,7 @@
 // How a file of cases is written.
 use crate::bodies::spell;
-use crate::changes::changed;
-use crate::fault::Fault;
+use crate::changes::put_changed;
+use crate::draft::Draft;
 use crate::texts::Texts;
 
 /// A section: what its body is for, and of which text the body says a change.
@@ -20,16 +20,14 @@ impl<'a> Section<'a> {
     /// The section of its lines, of which the first is `[each] TARGET [of BASE]`. Empty lines at its end do not count.
     pub fn of(lines: &'a str) -> Section<'a> {
         let (head, body) = lines.split_once('\n').unwrap_or((lines, ""));
-        let (each, head) = match head.strip_prefix("each ") {
-            Some(head) => (true, head),
-            None => (false, head),
-        };
+        let each = head.strip_prefix("each ");
+        let head = each.unwrap_or(head);
         let (target, base) = match head.split_once(" of ") {
             Some((target, base)) => (target, Some(base)),
             None => (head, None),
         };
         Section {
-            each,
+            each: each.is_some(),
             target,
             base,
             body: body.trim_end_matches('\n'),
@@ -37,40 +35,40 @@ impl<'a> Section<'a> {
     }
 
     /// The text that the whole body says.
-    pub fn text(&self, texts: &Texts) -> Result<Vec<u8>, Fault> {
+    pub fn text(&self, texts: &Texts) -> Draft {
+        let mut text = Draft::new(texts.alloc());
         match self.base {
-            Some(base) => self.text_by_changes(texts, texts.get(base)?),
-            None => self.own_text(texts),
+            Some(base) => {
+                texts.put(base, &mut text);
+                self.change(texts, &mut text);
+            }
+            None => {
+                if spell(texts, self.body, &mut text) && !self.body.is_empty() {
+                    text.put(b"\n");
+                }
+            }
         }
+        text
     }
 
-    // The text that the body spells, each of whose lines ends with a line feed.
-    fn own_text(&self, texts: &Texts) -> Result<Vec<u8>, Fault> {
-        let mut body = String::from_str(texts.alloc(), self.body)?;
-        if !self.body.is_empty() {
-            body.push('\n')?;
-        }
-        let mut text = Vec::new(texts.alloc());
-        spell(texts, body.as_str(), &mut text)?;
-        Ok(text)
-    }
-
-    // The text with one change after another.
-    fn text_by_changes(&self, texts: &Texts, base: &[u8]) -> Result<Vec<u8>, Fault> {
-        let mut text = base.to_vec(texts.alloc())?;
+    // Does one change after another.
+    fn change(&self, texts: &Texts, text: &mut Draft) {
         for change in self.body.lines() {
-            text = changed(texts, text.as_slice(), change)?;
+            let mut next = Draft::new(texts.alloc());
+            next.fail_with(text);
+            put_changed(texts, text.bytes(), change, &mut next);
+            *text = next;
         }
-        Ok(text)
     }
 
     /// The text that a line of the body says: the base with the change that it names, or what it spells, without a line feed.
-    pub fn text_of_line(&self, texts: &Texts, base: &[u8], line: &str) -> Result<Vec<u8>, Fault> {
+    pub fn text_of_line(&self, texts: &Texts, base: &[u8], line: &str) -> Draft {
+        let mut text = Draft::new(texts.alloc());
         if self.base.is_some() {
-            return changed(texts, base, line);
+            put_changed(texts, base, line, &mut text);
+        } else {
+            spell(texts, line, &mut text);
         }
-        let mut text = Vec::new(texts.alloc());
-        spell(texts, line, &mut text)?;
-        Ok(text)
+        text
     }
 }

@@ -1,13 +1,12 @@
 // Runs of one case, in which one number grows.
+use crate::draft::Draft;
 use crate::telling::Outcome;
-use std::alloc::{AllocError, Global};
 
-/// What came of runs of one case: from which number on they had this status, and said this much of what the whole run says.
+/// Runs of one case: what the whole run comes to, and what the last one came to, and how much of what the whole run says was said.
 #[derive(Drop)]
 pub struct Series {
     whole: Outcome,
     last: Option<(u8, &'static str)>,
-    told: String,
 }
 
 // How much of what the whole run says was said.
@@ -23,17 +22,8 @@ fn part_of(said: &[u8], whole: &[u8]) -> &'static str {
 
 impl Series {
     /// No run yet, where this comes of the whole one.
-    pub fn new(alloc: Global, whole: Outcome) -> Series {
-        Series {
-            whole,
-            last: None,
-            told: String::new(alloc),
-        }
-    }
-
-    /// What came of the runs so far.
-    pub fn told(&self) -> &str {
-        self.told.as_str()
+    pub fn new(whole: Outcome) -> Series {
+        Series { whole, last: None }
     }
 
     /// Whether the last run was as the whole one.
@@ -41,33 +31,29 @@ impl Series {
         self.last == Some((self.whole.status, "all"))
     }
 
-    /// Adds what came of two runs with this number, which are to come to the same.
-    pub fn add_both(
-        &mut self,
-        number: u64,
-        one: &Outcome,
-        other: &Outcome,
-    ) -> Result<(), AllocError> {
-        self.add(number, one)?;
-        if one.status == other.status && one.said == other.said {
-            return Ok(());
+    /// Tells what came of two runs with this number, which are to come to the same.
+    pub fn tell_both(&mut self, number: u64, one: &Outcome, other: &Outcome, out: &mut Draft) {
+        self.tell(number, one, out);
+        if one.status != other.status || one.said.bytes() != other.said.bytes() {
+            out.put(b"    at ");
+            out.put_number(number);
+            out.put(b" two outcomes\n");
         }
-        let alloc = *self.told.allocator();
-        let told = format!(in alloc; "    at {number} two outcomes\n")?;
-        self.told.push_str(told.as_str())
     }
 
-    /// Adds what came of the run with this number.
-    pub fn add(&mut self, number: u64, outcome: &Outcome) -> Result<(), AllocError> {
-        let part = part_of(&outcome.said, &self.whole.said);
+    /// Tells what came of the run with this number, unless it is what came of the one before.
+    pub fn tell(&mut self, number: u64, outcome: &Outcome, out: &mut Draft) {
+        let part = part_of(outcome.said.bytes(), self.whole.said.bytes());
         let end = Some((outcome.status, part));
         if self.last != end {
-            let status = outcome.status;
-            let alloc = *self.told.allocator();
-            let told = format!(in alloc; "    from {number} on status {status} and {part}\n")?;
-            self.told.push_str(told.as_str())?;
             self.last = end;
+            out.put(b"    from ");
+            out.put_number(number);
+            out.put(b" on status ");
+            out.put_number(u64::from(outcome.status));
+            out.put(b" and ");
+            out.put(part.as_bytes());
+            out.put(b"\n");
         }
-        Ok(())
     }
 }

@@ -1,23 +1,45 @@
 // What is written of a case.
+use crate::draft::{Draft, NO_MEMORY};
 use cep_base::Event;
-use std::alloc::{AllocError, Global};
+use std::alloc::Global;
 
 /// How a call of the command ended, and what it said.
 #[derive(Drop)]
 pub struct Outcome {
     pub status: u8,
-    pub said: Vec<u8>,
+    pub said: Draft,
 }
 
-/// What was written in a talk.
-pub fn written(alloc: Global, talk: &[Event]) -> Result<Vec<u8>, AllocError> {
-    let mut bytes = Vec::new(alloc);
-    for event in talk {
-        if let Event::Out(byte) = event {
-            bytes.push(*byte)?;
+/// The name of a case: that of its lines, of the text that it changes, if it is one of several, and its number, from 1, if it is one of several.
+#[derive(Clone, Copy)]
+pub struct Name<'a> {
+    pub lines: &'a str,
+    pub base: Option<&'a str>,
+    pub number: u64,
+}
+
+impl Name<'_> {
+    /// Adds the name.
+    pub fn put(&self, out: &mut Draft) {
+        out.put(self.lines.as_bytes());
+        if let Some(base) = self.base {
+            out.put(b", ");
+            out.put(base.as_bytes());
+        }
+        if self.number > 0 {
+            out.put(b"/");
+            out.put_number(self.number);
         }
     }
-    Ok(bytes)
+}
+
+/// Adds what was written in a talk.
+pub fn put_written(talk: &[Event], out: &mut Draft) {
+    for event in talk {
+        if let Event::Out(byte) = event {
+            out.put(&[*byte]);
+        }
+    }
 }
 
 // A sum of bytes in which each place counts (Fowler, Noll and Vo, 64 bits).
@@ -30,75 +52,95 @@ fn sum(bytes: &[u8]) -> u64 {
 }
 
 // Adds the names that were asked for, or a word for none.
-fn put_names(names: &[String], out: &mut String) -> Result<(), AllocError> {
+fn put_names(names: &[String], out: &mut Draft) {
     if names.is_empty() {
-        return out.push_str(" nothing");
+        out.put(b" nothing");
     }
     for name in names {
-        out.push(' ')?;
-        out.push_str(name.as_str())?;
+        out.put(b" ");
+        out.put(name.as_bytes());
     }
-    Ok(())
+}
+
+// Adds the character of a byte.
+fn put_char(byte: u8, out: &mut Draft) {
+    if byte.is_ascii() {
+        out.put(&[byte]);
+    } else {
+        out.put(&[0xc0 | byte >> 6, 0x80 | byte & 0x3f]);
+    }
 }
 
 // Adds bytes as lines of their own, after four spaces each. A backslash ends the last one if it has no line feed.
-fn put_lines(said: &[u8], out: &mut String) -> Result<(), AllocError> {
+fn put_lines(said: &[u8], out: &mut Draft) {
     let mut begins = true;
-    for byte in said {
+    for &byte in said {
         if begins {
-            out.push_str("    ")?;
+            out.put(b"    ");
         }
-        out.push(char::from(*byte))?;
-        begins = *byte == b'\n';
+        put_char(byte, out);
+        begins = byte == b'\n';
     }
-    if begins { Ok(()) } else { out.push_str("\\\n") }
+    if !begins {
+        out.put(b"\\\n");
+    }
 }
 
-// Adds bytes as they are.
-fn put_bytes(said: &[u8], out: &mut String) -> Result<(), AllocError> {
-    for byte in said {
-        out.push(char::from(*byte))?;
+// Adds a line.
+fn put_line(said: &[u8], out: &mut Draft) {
+    for &byte in said {
+        put_char(byte, out);
     }
-    Ok(())
+    out.put(b"\n");
 }
 
 // Adds how many bytes these are, and their sum.
-fn put_sum(said: &[u8], out: &mut String) -> Result<(), AllocError> {
-    let told = format!(in *out.allocator(); " {} bytes, sum {:016x}\n", said.len(), sum(said))?;
-    out.push_str(told.as_str())
-}
-
-// Whether this is one line.
-fn is_line(said: &[u8]) -> bool {
-    said.iter().position(|byte| *byte == b'\n') == said.len().checked_sub(1)
-}
-
-// Adds what was said: in the same line if it is one, in lines below, or by its length and sum if it is long.
-fn put_said(said: &[u8], most: u64, out: &mut String) -> Result<(), AllocError> {
-    if said.len() as u64 > most {
-        put_sum(said, out)
-    } else if said.is_empty() {
-        out.push_str(" nothing\n")
-    } else if is_line(said) {
-        out.push(' ')?;
-        put_bytes(said, out)
-    } else {
-        out.push('\n')?;
-        put_lines(said, out)
+fn put_sum(alloc: Global, said: &[u8], out: &mut Draft) {
+    match format!(in alloc; " {} bytes, sum {:016x}\n", said.len(), sum(said)) {
+        Ok(told) => out.put(told.as_bytes()),
+        Err(_) => out.fail(NO_MEMORY),
     }
 }
 
-/// What came of the case of this name, where of its output at most so many bytes are written out.
-pub fn told(
+// Adds what was said: in the same line if it is one, in lines below, or by its length and sum if it is long.
+fn put_said(alloc: Global, said: &[u8], most: u64, out: &mut Draft) {
+    if said.len() as u64 > most {
+        put_sum(alloc, said, out);
+    } else if said.is_empty() {
+        out.put(b" nothing\n");
+    } else {
+        put_short(said, out);
+    }
+}
+
+// Adds what was said, which is not nothing.
+fn put_short(said: &[u8], out: &mut Draft) {
+    match said.strip_suffix(b"\n") {
+        Some(line) if !line.contains(&b'\n') => {
+            out.put(b" ");
+            put_line(line, out);
+        }
+        _ => {
+            out.put(b"\n");
+            put_lines(said, out);
+        }
+    }
+}
+
+/// Adds what came of the case of this name, where of its output at most so many bytes are written out.
+pub fn tell(
     alloc: Global,
-    name: &str,
+    name: Name,
     outcome: &Outcome,
     names: &[String],
     most: u64,
-) -> Result<String, AllocError> {
-    let mut out = format!(in alloc; "{name}: status {}, asked", outcome.status)?;
-    put_names(names, &mut out)?;
-    out.push_str(", said")?;
-    put_said(outcome.said.as_slice(), most, &mut out)?;
-    Ok(out)
+    out: &mut Draft,
+) {
+    name.put(out);
+    out.put(b": status ");
+    out.put_number(u64::from(outcome.status));
+    out.put(b", asked");
+    put_names(names, out);
+    out.put(b", said");
+    put_said(alloc, outcome.said.bytes(), most, out);
 }

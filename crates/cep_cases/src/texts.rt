@@ -1,13 +1,13 @@
 // Texts that have a name, so that each stands once.
-use crate::fault::Fault;
-use std::alloc::Global;
+use crate::draft::Draft;
+use std::alloc::{AllocError, Global};
 use std::collections::BTreeMap;
 
 /// The texts of all files so far, by their names.
 #[derive(Drop)]
 pub struct Texts {
     alloc: Global,
-    by_name: BTreeMap<String, Vec<u8>>,
+    by_name: BTreeMap<String, Draft>,
 }
 
 impl Texts {
@@ -25,21 +25,17 @@ impl Texts {
     }
 
     /// Keeps a text under a name, in the place of one that had the name.
-    pub fn put(&mut self, name: &str, text: Vec<u8>) -> Result<(), Fault> {
+    pub fn keep(&mut self, name: &str, text: Draft) -> Result<(), AllocError> {
         let name = String::from_str(self.alloc, name)?;
         self.by_name.insert(name, text)?;
         Ok(())
     }
 
-    /// The text of a name.
-    ///
-    /// # Errors
-    ///
-    /// No text has the name.
-    pub fn get(&self, name: &str) -> Result<&[u8], Fault> {
+    /// Adds the text of a name.
+    pub fn put(&self, name: &str, out: &mut Draft) {
         match self.by_name.get(name) {
-            Some(text) => Ok(text.as_slice()),
-            None => Err(Fault::Malformed("no text has this name")),
+            Some(text) => out.put(text.bytes()),
+            None => out.fail("no text has this name"),
         }
     }
 }

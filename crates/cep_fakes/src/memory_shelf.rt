@@ -1,5 +1,5 @@
 // A shelf in memory of which chosen loads fail.
-ghost use Rattle.std.specs.Prelude.{◌≡◌, ◌≤◌, ◌↔◌, [], length, Some, IsSome, IfSome, IfOk, OnOk, OnErr, IsErrOf};
+ghost use Rattle.std.specs.Prelude.{◌≡◌, ◌≤◌, ◌↔◌, [], length, map, string_bytes, Some, IsSome, IfSome, IfOk, OnOk, OnErr, IsErrOf};
 ghost use Rattle.std.specs.FinMap as map;
 ghost use Rattle.cep_base.specs.declared.shelf.ShelfFault.TheVariants.{TooLong};
 ghost use Rattle.cep_base.specs.Files.{HasFile, HasLongerFile, Asks, ShelfCause};
@@ -60,6 +60,21 @@ impl MemShelf {
         let bytes = Vec::from_slice(self.alloc, bytes)?;
         self.files.insert(name, bytes)?;
         Ok(())
+    }
+
+    /// The names that were asked for, in order.
+    pub fn asked(&self) -> &[String]
+        ensures { map string_bytes result.now ≡ self.now.asked }
+    {
+        &self.asked
+    }
+
+    /// Forgets what was asked for and which loads are to fail. The next load has the number 1.
+    pub fn begin(&mut self)
+        ensures { self.new ≡ record self.old { asked = []; calls = no_calls [] } }
+    {
+        self.asked.clear();
+        self.calls = Calls::new(Vec::new(self.alloc));
     }
 
     /// Lists a load that is to fail.
