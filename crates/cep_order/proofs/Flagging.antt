@@ -1,5 +1,5 @@
 -- Flags that are set, counted and listed.
-use Rattle.std.proofs.Common.{◌≡◌, ◌⊎◌, inl, inr, ⊎_elim, ℕ, zero, suc, ◌+◌, ◌<◌, ◌≤◌, Bool, true, false, cond, List, [], ◌∷◌, length, get_or, take, set, replicate, refl, sym, ap, ◌∙◌, arith, Some}
+use Rattle.std.proofs.Common.{◌≡◌, ◌⊎◌, ⊎_elim, ℕ, suc, ◌+◌, ◌<◌, ◌≤◌, Bool, true, false, cond, List, [], ◌∷◌, length, get_or, take, set, refl, sym, ap, ◌∙◌, arith, Some}
 use Rattle.std.specs.Prelude.{slice_get, count_by}
 use Rattle.std.proofs.lemmas.List.{length-take, get_or-take, take-set-le, take-take, take_all, get_or_past}
 use Rattle.std.proofs.lemmas.Bool.{cases_lt, false≢true}
@@ -9,8 +9,7 @@ use Rattle.cep_order.specs.Flags.{set_before, set_places_from}
 
 -- a flag is set or not
 pub on_or_off : (flag : Bool) → (flag ≡ true) ⊎ (flag ≡ false)
-on_or_off true = inl refl
-on_or_off false = inr refl
+on_or_off flag = grind arith
 
 -- one flag more in front
 one_more : (flag : Bool) (flags : List Bool) (x : ℕ) → set_before (flag ∷ flags) (suc x) ≡ cond flag 1 0 + set_before flags x
@@ -29,13 +28,6 @@ set_counts flags place x within before off = grind (arith, take-set-lt, sum_by-s
 
 pub unset_counts : (flags : List Bool) (place x : ℕ) → place < length flags → place < x → get_or flags place false ≡ true → set_before flags x ≡ set_before (set flags place false) x + 1
 unset_counts flags place x within before on = grind (arith, take-set-lt, sum_by-set, length-take, get_or-take)
-
--- Where no flag is set none is counted.
-pub none_counted : (n x : ℕ) → set_before (replicate n false) x ≡ 0
-none_counted zero zero = refl
-none_counted zero (suc x) = refl
-none_counted (suc n) zero = refl
-none_counted (suc n) (suc x) = omega (arith, one_more false (replicate n false) x, none_counted n x)
 
 -- no more are set than there are
 pub set_few : (flags : List Bool) (x : ℕ) → set_before flags x ≤ length flags
@@ -57,8 +49,6 @@ as_many from (false ∷ flags) = omega (arith, one_more false flags (length flag
 
 -- A flag that is set stands in the list of places, after those before it.
 pub place_found : (from : ℕ) (flags : List Bool) (place : ℕ) → get_or flags place false ≡ true → slice_get (set_places_from from flags) (set_before flags place) ≡ Some (from + place)
-place_found from [] place on = absurd (cc)
-place_found from (true ∷ flags) zero on = ap Some (omega arith)
 place_found from (true ∷ flags) (suc place) on = grind (arith, one_more true flags place, place_found (from + 1) flags place on)
-place_found from (false ∷ flags) zero on = absurd (cc)
 place_found from (false ∷ flags) (suc place) on = grind (arith, one_more, place_found (from + 1) flags place on)
+place_found from flags place on = grind arith

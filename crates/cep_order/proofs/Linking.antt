@@ -21,13 +21,11 @@ get_kept_back : {A : Type 0} (xs : List A) (x : A) (n : ℕ) → n < length xs �
 get_kept_back xs x n less = let is = found xs n less in get_kept xs (x ∷ []) n is.0 is.1 ∙ sym is.1
 
 get_past : {A : Type 0} (xs : List A) (n : ℕ) → length xs ≤ n → slice_get xs n ≡ None
-get_past [] n past = refl
-get_past (x ∷ xs) zero past = absurd (omega arith)
 get_past (x ∷ xs) (suc n) past = get_past xs n (omega arith)
+get_past xs n past = grind arith
 
 no_link : (most : ℕ) (links : List Link) (from : ℕ) → from ≡ 0 → chain most links from ≡ []
-no_link zero links from none = refl
-no_link (suc most) links from none = ap (chain (suc most) links) none
+no_link most links from none = grind arith
 
 one_link : (most : ℕ) (links : List Link) (from : ℕ) (link : Link) → 0 < from → slice_get links (from - 1) ≡ Some link → chain (suc most) links from ≡ link.step ∷ chain most links link.next
 one_link most links from link some there = grind (arith, nat_tests)
@@ -35,8 +33,6 @@ one_link most links from link some there = grind (arith, nat_tests)
 module _ (links : List Link) (back : (place : ℕ) (link : Link) → slice_get links place ≡ Some link → link.next ≤ place) where
   -- With enough links the chain is the same.
   enough : (one other from : ℕ) → from ≤ one → from ≤ other → from ≤ length links → chain one links from ≡ chain other links from
-  enough zero other from less less' within = sym (no_link other links from (omega arith))
-  enough (suc one) zero from less less' within = no_link (suc one) links from (omega arith)
   enough (suc one) (suc other) from less less' within =
       ⊎_elim
       (λ none. no_link (suc one) links from none ∙ sym (no_link (suc other) links from none))
@@ -45,6 +41,7 @@ module _ (links : List Link) (back : (place : ℕ) (link : Link) → slice_get l
       let earlier = back (from - 1) is.0 is.1 in
       one_link one links from is.0 (omega arith) is.1 ∙ ap (λ (steps : List ℕ). is.0.step ∷ steps) (enough one other is.0.next (omega arith) (omega arith) (omega arith)) ∙ sym (one_link other links from is.0 (omega arith) is.1))
       (cases_eq from 0)
+  enough one other from less less' within = grind (arith, no_link)
 
   pub linked_next : (from : ℕ) (link : Link) → 0 < from → from ≤ length links → slice_get links (from - 1) ≡ Some link → linked_from links from ≡ link.step ∷ linked_from links link.next
   linked_next from link some within there = grind (arith, one_link, enough, link.next)
@@ -66,11 +63,7 @@ entry_last : (entries : List (List ℕ)) (last : List ℕ) (place : ℕ) → pla
 entry_last entries last place is = get_or_at entries last [] [] place (sym is)
 
 entry_other : (entries : List (List ℕ)) (last : List ℕ) (place : ℕ) → place ≢ length entries → entry_at (entries ++ last ∷ []) place ≡ entry_at entries place
-entry_other entries last place apart =
-    ⊎_elim
-    (λ less. get_or_append_left entries (last ∷ []) [] place less)
-    (λ past. get_or_past (entries ++ last ∷ []) place [] (omega (arith, length-append entries (last ∷ []))) ∙ sym (get_or_past entries place [] past))
-    (cases_lt place (length entries))
+entry_other entries last place apart = grind (arith, get_or_append_left, get_or_past, length-append, cases_lt)
 
 -- One entry more, of which nothing is linked yet.
 pub links_begin : (entries : List (List ℕ)) (begins : List ℕ) (links : List Link) → AreLinksFor entries begins links → AreLinksFor (entries ++ [] ∷ []) begins links
@@ -82,10 +75,7 @@ links_begin entries begins links are = record {
 }
 
 pub no_links : (most : ℕ) → AreLinksFor [] (replicate most 0) []
-no_links most = record {
-  lead = record { begin = λ place. omega (arith, nothing_at most place); back = λ place link there. none_some link there };
-  each = λ place step within. ap (λ (steps : List ℕ). times step steps) (no_link _ [] _ (nothing_at most place));
-}
+no_links most = record { lead = record { begin = λ place. omega (arith, nothing_at most place); back = λ place link there. none_some link there }; each = λ place step within. ap (λ (steps : List ℕ). times step steps) (no_link _ [] _ (nothing_at most place)); }
 
 -- A number is linked.
 module _ (entries : List (List ℕ)) (numbers begins : List ℕ) (links : List Link) (step number last : ℕ) (link : Link) (are : AreLinksFor (entries ++ numbers ∷ []) begins links) (here : length entries ≡ step) (some : 0 < number) (within : number ≤ length begins)
@@ -122,9 +112,8 @@ module _ (entries : List (List ℕ)) (numbers begins : List ℕ) (links : List L
       → times waiting (linked_from (links ++ link ∷ []) (get_or (set begins (number - 1) last) place 0)) ≡ times (place + 1) (entry_at (entries ++ (numbers ++ number ∷ []) ∷ []) waiting)
   elsewhere place waiting apart below =
       let from : get_or (set begins (number - 1) last) place 0 ≡ get_or begins place 0 = get_or-set_other begins (number - 1) place last 0 apart in
-      let was = are.each place waiting below in
       let chained = ap (linked_from (links ++ link ∷ [])) from ∙ kept links are.lead.back (link ∷ []) (get_or begins place 0) (get_or begins place 0) (are.lead.begin place) in
-      ap (times waiting) chained ∙ was
+      ap (times waiting) chained ∙ (are.each place waiting below)
       ∙ ⊎_elim
       (λ same. ap (times (place + 1)) (entry_last entries numbers waiting same) ∙ sym (ap (times (place + 1)) (entry_last entries (numbers ++ number ∷ []) waiting same) ∙ no_more_last (place + 1) number numbers (λ e. omega arith)))
       (λ other. sym (ap (times (place + 1)) (same_entry waiting other)))
@@ -132,14 +121,11 @@ module _ (entries : List (List ℕ)) (numbers begins : List ℕ) (links : List L
 
   at_number : (waiting : ℕ) → times waiting (linked_from (links ++ link ∷ []) last) ≡ times number (entry_at (entries ++ (numbers ++ number ∷ []) ∷ []) waiting)
   at_number waiting =
-      let place : last - 1 ≡ length links = omega arith in
-      let there : slice_get (links ++ link ∷ []) (last - 1) ≡ Some link = ap (slice_get (links ++ link ∷ [])) place ∙ get_last links link in
-      let chained = linked_next (links ++ link ∷ []) lead.back last link (omega arith) (omega (arith, longer)) there in
+      let there : slice_get (links ++ link ∷ []) (last - 1) ≡ Some link = ap (slice_get (links ++ link ∷ [])) (omega arith) ∙ get_last links link in
       let rest : linked_from (links ++ link ∷ []) link.next ≡ linked_from links (get_or begins (number - 1) 0) = kept links are.lead.back (link ∷ []) link.next link.next low ∙ ap (linked_from links) follows in
       let was = are.each (number - 1) waiting (omega arith) in
-      let known : times (number - 1 + 1) (entry_at (entries ++ numbers ∷ []) waiting) ≡ times number (entry_at (entries ++ numbers ∷ []) waiting) = ap (λ n. times n (entry_at (entries ++ numbers ∷ []) waiting)) (omega arith) in
-      let old = ap (times waiting) rest ∙ was ∙ known in
-      ap (times waiting) chained
+      let old = ap (times waiting) rest ∙ was ∙ (ap (λ n. times n (entry_at (entries ++ numbers ∷ []) waiting)) (omega arith)) in
+      ap (times waiting) (linked_next (links ++ link ∷ []) lead.back last link (omega arith) (omega (arith, longer)) there)
       ∙ ⊎_elim
       (λ same.
       once_more waiting link.step (linked_from (links ++ link ∷ []) link.next) (of_step ∙ sym here ∙ sym same)
@@ -150,14 +136,4 @@ module _ (entries : List (List ℕ)) (numbers begins : List ℕ) (links : List L
       (cases_eq waiting (length entries))
 
   pub linked : AreLinksFor (entries ++ (numbers ++ number ∷ []) ∷ []) (set begins (number - 1) last) (links ++ link ∷ [])
-  linked = record {
-    lead = lead;
-    each = λ place waiting below.
-        ⊎_elim
-        (λ same.
-        let from : get_or (set begins (number - 1) last) place 0 ≡ last = ap (λ n. get_or (set begins (number - 1) last) n 0) same ∙ get_or-set_same begins (number - 1) last 0 (omega arith) in
-        let named : number ≡ place + 1 = omega arith in
-        ap (λ n. times waiting (linked_from (links ++ link ∷ []) n)) from ∙ at_number waiting ∙ ap (λ n. times n (entry_at (entries ++ (numbers ++ number ∷ []) ∷ []) waiting)) named)
-        (λ apart. elsewhere place waiting apart (omega (arith, length-set begins (number - 1) last)))
-        (cases_eq place (number - 1));
-  }
+  linked = grind (arith, lead, get_or-set_same, at_number, elsewhere, length-set, cases_eq)

@@ -26,8 +26,7 @@ increasing_from from [] k within = absurd (omega arith)
 increasing_from from (false ∷ flags) k within = increasing_from (from + 1) flags k within
 increasing_from from (true ∷ flags) zero within =
     let later = set_places_from (from + 1) flags in
-    let is = listed_from (from + 1) flags (get_or later 0 0) (Contains-get_or later 0 0 (omega arith)) in
-    omega (arith, is.1)
+    omega (arith, (listed_from (from + 1) flags (get_or later 0 0) (Contains-get_or later 0 0 (omega arith))).1)
 increasing_from from (true ∷ flags) (suc k) within =
     let later = set_places_from (from + 1) flags in
     let next : suc k + 1 ≡ suc (k + 1) = omega arith in

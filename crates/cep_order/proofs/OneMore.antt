@@ -1,5 +1,5 @@
 -- One more step is taken, one more part is begun, and the end.
-use Rattle.std.proofs.Common.{◌≡◌, ◌≢◌, ◌↔◌, ◌⊎◌, inl, inr, ⊎_elim, ℕ, zero, suc, ◌+◌, ◌-◌, ◌<◌, ◌≤◌, Bool, true, false, List, [], ◌∷◌, ◌++◌, length, map, get_or, set, replicate, Some, refl, sym, ap, ◌∙◌, subst, arith, Contains, append_assoc, append-nil, length-set}
+use Rattle.std.proofs.Common.{◌≡◌, ◌≢◌, ◌↔◌, ◌⊎◌, inl, inr, ⊎_elim, ℕ, suc, ◌+◌, ◌-◌, ◌<◌, ◌≤◌, Bool, true, false, List, [], ◌∷◌, ◌++◌, length, map, get_or, set, replicate, Some, refl, sym, ap, ◌∙◌, subst, arith, Contains, append_assoc, append-nil, length-set}
 use Rattle.std.specs.Prelude.{slice_get}
 use Rattle.std.proofs.lemmas.Bool.{cases_lt, cases_eq, false≢true}
 use Rattle.std.proofs.lemmas.List.{get_or-set_same, get_or-set_other, get_or_past, map-append, length-map, get_or-replicate, length-replicate}
@@ -207,9 +207,8 @@ module _ (seed : ℕ) (causes : List StepCause) (earlier : NamesEarlier causes) 
 
 -- No step is taken.
 left_at : (entries : List (List ℕ)) (step : ℕ) → get_or (map length entries) step 0 ≡ length (entry_at entries step)
-left_at [] step = refl
-left_at (entry ∷ entries) zero = refl
 left_at (entry ∷ entries) (suc step) = left_at entries step
+left_at entries step = refl
 
 all_off : (n step : ℕ) → get_or (replicate n false) step false ≡ false
 all_off n step = ⊎_elim (λ less. get_or-replicate n step false false less) (λ past. get_or_past (replicate n false) step false (omega (arith, length-replicate n false))) (cases_lt step n)

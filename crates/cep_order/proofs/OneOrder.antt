@@ -13,9 +13,7 @@ use Rattle.cep_order.specs.Orders.{IsTaken, AreTaken, IsOrderBy}
 
 -- Strictly increasing lists with the same elements are the same.
 rest_increases : (x : ℕ) (xs : List ℕ) → IsStrictlyIncreasing (x ∷ xs) → IsStrictlyIncreasing xs
-rest_increases x xs increases k within =
-    let next : suc k + 1 ≡ suc (k + 1) = omega arith in
-    subst (λ n. get_or xs k 0 < get_or (x ∷ xs) n 0) next (increases (suc k) (omega arith))
+rest_increases x xs increases k within = let next : suc k + 1 ≡ suc (k + 1) = omega arith in subst (λ n. get_or xs k 0 < get_or (x ∷ xs) n 0) next (increases (suc k) (omega arith))
 
 first_is_least : (x : ℕ) (xs : List ℕ) (y : ℕ) → IsStrictlyIncreasing (x ∷ xs) → Contains xs y → x < y
 first_is_least x xs y increases there = subst (λ n. x < n) there.2 (AllPairs-from_increasing (x ∷ xs) increases 0 (suc there.0) y (omega arith) (omega (arith, there.1)))
@@ -51,9 +49,8 @@ module _ (seed : ℕ) (causes : List StepCause) where
     same_at : (one.at ≡ two.at) × (one_drawn ≡ other_drawn)
     same_at =
         let here = slice_get_within one.ready one.at place one.there in
-        let there = slice_get_within two.ready two.at other two.there in
         ⊎_elim
-        (λ lone. (omega (arith, here, there, lone, same_count), one.lone lone ∙ sym (two.lone (sym same_count ∙ lone))))
+        (λ lone. (omega (arith, here, (slice_get_within two.ready two.at other two.there), lone, same_count), one.lone lone ∙ sym (two.lone (sym same_count ∙ lone))))
         (λ apart.
         let several = one.several (omega (arith, here)) in
         let others = two.several (omega (arith, here, same_count)) in

@@ -1,7 +1,6 @@
 -- Entries and barriers at places.
-use Rattle.std.proofs.Common.{◌≡◌, ℕ, zero, suc, ◌<◌, true, false, List, [], ◌∷◌, length, get_or, Some, sym, ap, ◌∙◌, subst}
+use Rattle.std.proofs.Common.{◌≡◌, ℕ, suc, ◌<◌, true, false, List, ◌∷◌, length, get_or, Some, sym, ap, ◌∙◌, arith}
 use Rattle.std.specs.Prelude.{slice_get}
-use Rattle.std.proofs.lemmas.Bool.{false≢true}
 use Rattle.std.proofs.lemmas.Option.{slice_get-get_or}
 use Rattle.cep_base.proofs.Lists.{none_some, some_same}
 use Rattle.cep_order.specs.declared.step_cause.StepCause.{StepCause}
@@ -12,14 +11,12 @@ barrier_read : (causes : List StepCause) (place : ℕ) (cause : StepCause) → s
 barrier_read causes place cause there barrier = ap (λ (c : StepCause). c.barrier) (some_same cause barrier.0 (sym there ∙ barrier.1)) ∙ barrier.2
 
 pub no_barrier : (causes : List StepCause) (place other : ℕ) (cause : StepCause) → place < length causes → (get_or causes place cause).barrier ≡ false → other ≡ place → IsBarrierAt causes other → ⊥
-no_barrier causes place other cause within none same barrier =
-    false≢true (sym none ∙ barrier_read causes place (get_or causes place cause) (slice_get-get_or causes place cause within) (subst (λ n. IsBarrierAt causes n) same barrier))
+no_barrier causes place other cause within none same barrier = grind (arith, barrier_read, slice_get-get_or)
 
 pub barrier_there : (causes : List StepCause) (place : ℕ) (cause : StepCause) → place < length causes → (get_or causes place cause).barrier ≡ true → IsBarrierAt causes place
 barrier_there causes place cause within is = (get_or causes place cause, slice_get-get_or causes place cause within, is)
 
 -- the entry of a step
 pub entry_is : (causes : List StepCause) (place : ℕ) (cause : StepCause) → slice_get causes place ≡ Some cause → entry_at (all_entries causes) place ≡ cause.after
-entry_is [] place cause there = none_some cause there
-entry_is (first ∷ causes) zero cause there = ap (λ (c : StepCause). c.after) (some_same first cause there)
 entry_is (first ∷ causes) (suc place) cause there = entry_is causes place cause there
+entry_is causes place cause there = grind (arith, none_some, some_same)

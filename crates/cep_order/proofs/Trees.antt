@@ -1,5 +1,5 @@
 -- Trees of counts.
-use Rattle.std.proofs.Common.{◌≡◌, ◌≢◌, ⊎_elim, ℕ, zero, suc, ◌+◌, ◌-◌, ◌*◌, ◌/◌, ◌^◌, ◌<◌, ◌≤◌, Bool, false, List, length, get_or, set, replicate, refl, ap, ◌∙◌, arith, length-set, add-one}
+use Rattle.std.proofs.Common.{◌≡◌, ◌≢◌, ⊎_elim, ℕ, zero, suc, ◌+◌, ◌-◌, ◌*◌, ◌/◌, ◌^◌, ◌<◌, ◌≤◌, Bool, List, length, get_or, set, replicate, refl, ap, ◌∙◌, arith, length-set, add-one}
 use Rattle.std.proofs.Math.Nat.{pow-succ', le-mul_of_pos_right}
 use Rattle.std.proofs.lemmas.Nat.{pow_pos}
 use Rattle.std.proofs.lemmas.Bool.{cases_lt, cases_eq}
@@ -7,7 +7,7 @@ use Rattle.std.proofs.lemmas.Bool.Decides.{nat_tests}
 use Rattle.std.proofs.lemmas.List.{get_or-set_same, get_or-set_other, get_or-replicate, get_or_past, length-replicate}
 use Rattle.cep_order.specs.Flags.{set_before}
 use Rattle.cep_order.specs.Counts.{Counts, only_at, IsNearly, IsTree}
-use Rattle.cep_order.proofs.Flagging.{written_after, none_counted, counted_more, set_few, all_before}
+use Rattle.cep_order.proofs.Flagging.{written_after, counted_more, set_few, all_before}
 
 all_here : (here amount node : ℕ) → node ≡ here → only_at here amount node ≡ amount
 all_here here amount node same = grind (arith, nat_tests)
@@ -80,12 +80,7 @@ pub record IsDown (flags : List Bool) (counts : List ℕ) (height k levels node 
 
 module _ (flags : List Bool) (counts : List ℕ) (height k : ℕ) (tree : IsTree flags counts height) where
   pub down_first : k < set_before flags (length flags) → IsDown flags counts height k height 1 k
-  down_first some =
-      let none : (1 * 2 ^ height - 2 ^ height) * 64 ≡ 0 = omega arith in
-      record {
-        before = omega (arith, ap (set_before flags) none);
-        within = omega (arith, root_counts flags counts height tree);
-      }
+  down_first some = let none : (1 * 2 ^ height - 2 ^ height) * 64 ≡ 0 = omega arith in record { before = omega (arith, ap (set_before flags) none); within = omega (arith, root_counts flags counts height tree); }
 
   module _ (levels below node left : ℕ) (one : levels ≡ below + 1) (some : 0 < node) (low : 2 ^ height ≤ node * 2 ^ levels) (high : (node + 1) * 2 ^ levels ≤ 2 * 2 ^ height) where
     twice : 2 ^ levels ≡ 2 * 2 ^ below
@@ -110,24 +105,7 @@ module _ (flags : List Bool) (counts : List ℕ) (height k : ℕ) (tree : IsTree
 
 -- Where nothing is set each node counts none.
 pub nothing_at : (n i : ℕ) → ◌≡◌ {A = ℕ} (get_or (replicate n 0) i 0) 0
-nothing_at n i =
-    let none : ℕ = 0 in
-    ⊎_elim (λ less. get_or-replicate n i none none less) (λ past. get_or_past (replicate n none) i none (omega (arith, length-replicate n none))) (cases_lt i n)
-
-pub empty_tree : (steps leaves height : ℕ) → leaves ≡ 2 ^ height → steps ≤ leaves * 64 → steps ≤ 67108864 → leaves ≤ 67108864 → IsTree (replicate steps false) (replicate (2 * leaves) 0) height
-empty_tree steps leaves height is room few low =
-    record {
-      size = omega (arith, length-replicate {A = ℕ} (2 * leaves) 0);
-      room = omega (arith, length-replicate steps false);
-      few = omega (arith, length-replicate steps false);
-      few_leaves = omega arith;
-      each = λ node some within.
-          let off = none_elsewhere 0 0 node (λ none. omega arith) in
-          record {
-            inner = λ below. omega (arith, off, nothing_at (2 * leaves) node, nothing_at (2 * leaves) (2 * node), nothing_at (2 * leaves) (2 * node + 1));
-            leaf = λ above. omega (arith, off, nothing_at (2 * leaves) node, none_counted steps ((node - 2 ^ height) * 64), none_counted steps ((node - 2 ^ height + 1) * 64));
-          };
-    }
+nothing_at n i = grind (arith, get_or-replicate, get_or_past, length-replicate, cases_lt)
 
 -- A flag is written: the leaf of its block is off by as many as the flags after it are.
 module _ (flags : List Bool) (counts : List ℕ) (height place lacks exceeds : ℕ) (flag : Bool) (tree : IsTree flags counts height)
@@ -136,28 +114,7 @@ module _ (flags : List Bool) (counts : List ℕ) (height place lacks exceeds : �
   before x later = written_after flags place x flag later
 
   pub off_at_leaf : (here : ℕ) → here ≡ 2 ^ height + place / 64 → IsNearly (set flags place flag) counts height here lacks exceeds
-  off_at_leaf here is = record {
-    size = tree.size;
-    room = omega (arith, tree.room, length-set flags place flag);
-    few = omega (arith, tree.few, length-set flags place flag);
-    few_leaves = tree.few_leaves;
-    each = λ node some below.
-        let block = node - 2 ^ height in
-        let off : node ≢ here → (only_at here lacks node ≡ 0) × (only_at here exceeds node ≡ 0) = λ apart. (none_elsewhere here lacks node apart, none_elsewhere here exceeds node apart) in
-        record {
-          inner = λ low. let none = off (λ same. omega arith) in omega (arith, none.0, none.1, inner flags counts height tree node some low);
-          leaf = λ high.
-              let was = leaf flags counts height tree node some high (omega (arith, tree.size)) in
-              ⊎_elim
-              (λ same. omega (arith, was, all_here here lacks node same, all_here here exceeds node same, before (block * 64) (omega arith), after ((block + 1) * 64) (omega arith)))
-              (λ apart. let none = off apart in
-              ⊎_elim
-              (λ early. omega (arith, was, none.0, none.1, before (block * 64) (omega arith), before ((block + 1) * 64) (omega arith)))
-              (λ late. omega (arith, was, none.0, none.1, after (block * 64) (omega arith), after ((block + 1) * 64) (omega arith)))
-              (cases_lt node here))
-              (cases_eq node here);
-        };
-  }
+  off_at_leaf here is = grind (arith, length-set, here, none_elsewhere, inner, leaf, all_here, before, cases_lt, cases_eq)
 
 -- A node is mended: now its parent is off.
 module _ (flags : List Bool) (counts : List ℕ) (height here lacks exceeds count : ℕ) (some : 0 < here) (within : here < length counts) (nearly : IsNearly flags counts height here lacks exceeds) (mends : count + exceeds ≡ get_or counts here 0 + lacks) where
@@ -179,25 +136,7 @@ module _ (flags : List Bool) (counts : List ℕ) (height here lacks exceeds coun
 
   other : (node : ℕ) → node ≢ here → Counts flags counts (2 ^ height) node (only_at here lacks node) (only_at here exceeds node)
       → Counts flags (set counts here count) (2 ^ height) node (only_at (here / 2) lacks node) (only_at (here / 2) exceeds node)
-  other node apart was =
-      let kept = elsewhere node apart in
-      let lacked = none_elsewhere here lacks node apart in
-      let exceeded = none_elsewhere here exceeds node apart in
-      record {
-        inner = λ low.
-            ⊎_elim
-            (λ even. let now = at_node (2 * node) even in let off = above node (omega arith) in
-            omega (arith, was.inner low, mends, kept, now.0, now.1, off.0, off.1, lacked, exceeded, elsewhere (2 * node + 1) (λ e. omega arith)))
-            (λ uneven.
-            ⊎_elim
-            (λ odd. let now = at_node (2 * node + 1) odd in let off = above node (omega arith) in
-            omega (arith, was.inner low, mends, kept, now.0, now.1, off.0, off.1, lacked, exceeded, elsewhere (2 * node) uneven))
-            (λ neither. let off = not_above node (λ e. omega arith) in
-            omega (arith, was.inner low, kept, off.0, off.1, lacked, exceeded, elsewhere (2 * node) uneven, elsewhere (2 * node + 1) neither))
-            (cases_eq (2 * node + 1) here))
-            (cases_eq (2 * node) here);
-        leaf = λ high. let off = not_above node (λ e. omega (arith, nearly.size)) in omega (arith, was.leaf high, kept, off.0, off.1, lacked, exceeded);
-      }
+  other node apart was = grind (arith, elsewhere, none_elsewhere, here, inner, at_node, above, not_above, cases_eq, leaf)
 
   pub off_above : IsNearly flags (set counts here count) height (here / 2) lacks exceeds
   off_above = record {

@@ -37,9 +37,8 @@ untaken_push order number (first ∷ numbers) none =
 pub untaken_none : (order numbers : List ℕ) → ((number : ℕ) → 0 < times number numbers → 0 < times number order) → untaken order numbers ≡ 0
 untaken_none order [] all = refl
 untaken_none order (first ∷ numbers) all =
-    let here = all first (omega (arith, once_more first first numbers refl)) in
     let rest = untaken_none order numbers (λ number some. all number (⊎_elim (λ same. omega (arith, once_more number first numbers same)) (λ apart. omega (arith, no_more number first numbers apart)) (cases_eq first number))) in
-    omega (arith, one_more order first numbers, counts_not (times first order) here, rest)
+    omega (arith, one_more order first numbers, counts_not (times first order) (all first (omega (arith, once_more first first numbers refl))), rest)
 
 pub untaken_some : (order : List ℕ) (number : ℕ) (numbers : List ℕ) → times number order ≡ 0 → 0 < times number numbers → 0 < untaken order numbers
 untaken_some order number numbers none some = omega (arith, untaken_push order number numbers none)
