@@ -1,7 +1,6 @@
 -- What is met of a scope has the types that are wanted where its variables occur first.
-use Rattle.std.proofs.Common.{◌≡◌, ℕ, Bool, true, false, if◌then◌else◌, cond, List, [], ◌∷◌, Some, refl, ap, ◌∙◌}
+use Rattle.std.proofs.Common.{◌≡◌, ℕ, List, [], ◌∷◌, arith}
 use Rattle.std.specs.Option.{option_map}
-use Rattle.std.specs.Str.{bytes_eq}
 use Rattle.cep_parse.specs.declared.raw.Span.{Span}
 use Rattle.cep_parse.specs.declared.raw.RawAtom.{RawAtom}
 use Rattle.cep_source.specs.Items.{Source, said}
@@ -23,14 +22,8 @@ module _ (source : Source) (atoms : List RawAtom) (variables : Variables) (met :
   all = wanted_from source 0 (sites_of source atoms)
 
   under_found : (firsts_ : List (List ℕ × Span)) (name : List ℕ) → option_map (said source) (under_name firsts_ name) ≡ option_map (λ (w : Wanted). w.wants) (found name_of (wanted_in source firsts_) name)
-  under_found [] name = refl
-  under_found (e ∷ firsts_) name = rw (bytes_eq_sym name e.0) (cases (bytes_eq e.0 name) (under_found firsts_ name)) where
-    cases : (b : Bool) → option_map (said source) (under_name firsts_ name) ≡ option_map (λ (w : Wanted). w.wants) (found name_of (wanted_in source firsts_) name)
-        → option_map (said source) (if b then Some e.1 else under_name firsts_ name) ≡ option_map (λ (w : Wanted). w.wants) (cond b (Some (record { name = e.0; wants = said source e.1 })) (found name_of (wanted_in source firsts_) name))
-    cases true rest = refl
-    cases false rest = rest
+  under_found (e ∷ firsts_) name = grind (arith, under_found firsts_ name, bytes_eq_sym, found)
+  under_found firsts_ name = grind arith
 
   pub types_met : (name : List ℕ) → type_met source variables.firsts name ≡ type_of source atoms name
-  types_met name =
-      under_found variables.firsts name
-      ∙ ap (option_map (λ (w : Wanted). w.wants)) (ap (λ ws. found name_of ws name) met.firsts ∙ found_kept name_of [] all name)
+  types_met name = grind (arith, under_found variables.firsts name, met.firsts, found_kept name_of [] all name)

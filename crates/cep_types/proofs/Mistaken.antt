@@ -1,8 +1,7 @@
 -- The first term that is found of another type than is wanted is the first one that is mistyped.
-use Rattle.std.proofs.Common.{◌≡◌, ◌≢◌, ℕ, ⊎_elim, Bool, true, false, ◌&&◌, ◌==◌, not, if◌then◌else◌, List, [], ◌∷◌, ◌++◌, map, filter, Option, Some, None, unwrap_or, refl, ap, sym, ◌∙◌, subst}
+use Rattle.std.proofs.Common.{◌≡◌, ◌≢◌, ℕ, ⊎_elim, Bool, true, false, not, List, [], ◌∷◌, ◌++◌, filter, Option, Some, None, refl, ap, subst, arith}
 use Rattle.std.specs.List.{flat_map, find, list_any}
 use Rattle.std.specs.Option.{option_map}
-use Rattle.std.specs.Str.{bytes_eq}
 use Rattle.std.proofs.lemmas.Bool.{or_parts}
 use Rattle.std.proofs.lemmas.Slice.Eq.{bytes_eq-Decides}
 use Rattle.cep_parse.specs.declared.raw.RawKind.{RawKind}
@@ -13,16 +12,16 @@ use Rattle.cep_refusal.specs.declared.fault.Fault.{Fault}
 use Rattle.cep_refusal.specs.declared.reason.Reason.TheVariants.{TypeClash}
 use Rattle.cep_refusal.specs.First.{standing, IsFirstOrNone, first_in, wrong}
 use Rattle.cep_source.specs.declared.space.Space.TheVariants as space
-use Rattle.cep_source.specs.Items.{Source, ConItem, PredItem, ContextItem, TraceItem, said, preds_of, rules_of, clauses_of, contexts_of, traces_of}
-use Rattle.cep_source.specs.Spaces.{named, is_in, con_named, pred_named}
+use Rattle.cep_source.specs.Items.{Source, ConItem, ContextItem, TraceItem, said, rules_of, clauses_of, contexts_of, traces_of}
+use Rattle.cep_source.specs.Spaces.{con_named}
 use Rattle.cep_source.specs.Uses.{stands_for_context, state_atoms}
-use Rattle.cep_types.specs.Sites.{Site, sites_from, sites_in, sites_of, type_of, rule_scope, clause_scope, IsScope, Mistyped}
+use Rattle.cep_types.specs.Sites.{Site, sites_in, sites_of, type_of, rule_scope, clause_scope, IsScope, Mistyped}
 use Rattle.cep_types.specs.Sites.IsScope.{rule, clause, state}
 use Rattle.cep_types.specs.Sites.Mistyped.{constructor, variable}
 use Rattle.cep_types.specs.Clashes.{type_at, clash_if, clash_of, atom_clashes, scope_clashes, state_clashes, rule_clashes, clause_clashes, context_clashes, trace_clashes, clashes_of}
 use Rattle.cep_base.proofs.Bytes.{any_map}
 use Rattle.cep_base.proofs.Foremost.{foremost_among, foremost_same}
-use Rattle.cep_base.proofs.Members.{In, here, there, in_nil, in_one, in_same, in_left, in_right, in_parts, through, via, to_contains, from_contains}
+use Rattle.cep_base.proofs.Members.{In, here, there, in_nil, in_one, in_left, in_right, in_parts, through, via, to_contains, from_contains, in_same}
 
 -- A type that is there is not the one that is wanted.
 record Clash (is : Option (List ℕ)) (wants : List ℕ) (at : ℕ) (fault : Fault) : Type 0 where
@@ -32,19 +31,10 @@ record Clash (is : Option (List ℕ)) (wants : List ℕ) (at : ℕ) (fault : Fau
   fault_is : fault ≡ wrong TypeClash at
 
 clash_is : (is : Option (List ℕ)) (wants : List ℕ) (at : ℕ) (fault : Fault) → In (clash_if is wants at) fault → Clash is wants at fault
-clash_is None wants at fault h = absurd (in_nil fault h)
-clash_is (Some is) wants at fault h = by_test (bytes_eq is wants) refl h where
-  by_test : (same : Bool) → bytes_eq is wants ≡ same → In (let faults : List Fault = if same then [] else wrong TypeClash at ∷ [] in faults) fault → Clash (Some is) wants at fault
-  by_test true e k = absurd (in_nil fault k)
-  by_test false e k = record { first = is; is_first = refl; apart = λ equal. let yes : bytes_eq is wants ≡ true = (bytes_eq-Decides is wants).1 equal in absurd cc; fault_is = in_one _ fault k }
+clash_is is wants at fault h = grind (arith, in_nil, bytes_eq-Decides, in_one)
 
 clash_there : (is : Option (List ℕ)) (first wants : List ℕ) (at : ℕ) (fault : Fault) → is ≡ Some first → first ≢ wants → fault ≡ wrong TypeClash at → In (clash_if is wants at) fault
-clash_there is first wants at fault is_first apart fault_is =
-    in_same (clash_if is wants at) (clash_if (Some first) wants at) fault (ap (λ o. clash_if o wants at) is_first) (by_test (bytes_eq first wants) refl)
-  where
-    by_test : (same : Bool) → bytes_eq first wants ≡ same → In (let faults : List Fault = if same then [] else wrong TypeClash at ∷ [] in faults) fault
-    by_test true e = absurd (apart ((bytes_eq-Decides first wants).0 e))
-    by_test false e = subst (In (wrong TypeClash at ∷ [])) (sym fault_is) (here (wrong TypeClash at) [])
+clash_there is first wants at fault is_first apart fault_is = rw (is_first, fault_is) (grind (arith, bytes_eq-Decides first wants, here (wrong TypeClash at) []))
 
 -- ---- atoms of states
 
@@ -58,19 +48,12 @@ abbrev trace_atoms : Source → List RawAtom
 trace_atoms source = flat_map (plain source) (traces_of source)
 
 in_filter : {X : Type 0} (p : X → Bool) (xs : List X) (x : X) → In xs x → p x ≡ true → In (filter p xs) x
-in_filter p [] x h is = absurd (in_nil x h)
-in_filter p (x ∷ xs) x' (here a b) is = rw is (here x (filter p xs))
-in_filter p (x ∷ xs) y (there a b c m) is = cases (p x) (in_filter p xs y m is) where
-  cases : (passes : Bool) → In (filter p xs) y → In (if passes then x ∷ filter p xs else filter p xs) y
-  cases true rest = there x y (filter p xs) rest
-  cases false rest = rest
+in_filter p (x ∷ xs) y (there a b c m) is = grind (arith, in_filter p xs y m is, there)
+in_filter p xs y h is = grind (arith, in_nil, here)
 
 from_filter : {X : Type 0} (p : X → Bool) (xs : List X) (x : X) → In (filter p xs) x → In xs x
 from_filter p [] x h = absurd (in_nil x h)
-from_filter p (x ∷ xs) y h = cases (p x) h (from_filter p xs y) where
-  cases : (passes : Bool) → In (if passes then x ∷ filter p xs else filter p xs) y → (In (filter p xs) y → In xs y) → In (x ∷ xs) y
-  cases true k rest = ⊎_elim (λ a. subst (In (x ∷ xs)) (sym (in_one x y a)) (here x xs)) (λ a. there x y xs (rest a)) (in_parts (x ∷ []) (filter p xs) y k)
-  cases false k rest = there x y xs (rest k)
+from_filter p (x ∷ xs) y h = grind (arith, from_filter p xs y, in_parts (x ∷ []) (filter p xs) y, in_one x y, here x xs, there x y xs)
 
 found_none : {X : Type 0} (p : X → Bool) (xs : List X) → list_any p xs ≡ false → find p xs ≡ None
 found_none p [] e = refl
@@ -78,29 +61,11 @@ found_none p (x ∷ xs) e = let both = or_parts (p x) (list_any p xs) e in rw bo
 
 -- what stands for a context has no predicate, so no types are wanted of its terms
 no_terms : (source : Source) (atom : RawAtom) → stands_for_context source atom ≡ true → sites_in source atom ≡ []
-no_terms source atom stands =
-    ap (λ (pred : Option PredItem). sites_from source (map (said source) (unwrap_or (option_map (λ (p : PredItem). p.args) pred) [])) atom.nodes) unknown
-  where
-    name : List ℕ
-    name = said source atom.name
-
-    absent : is_in source space.Predicates name ≡ false
-    absent = not_in (atom.args == 0) (is_in source space.Predicates name) (is_in source space.Contexts name) stands where
-      not_in : (a b c : Bool) → (a && (not b && c)) ≡ true → b ≡ false
-      not_in true true c e = absurd cc
-      not_in true false c e = refl
-      not_in false b c e = absurd cc
-
-    unknown : pred_named source name ≡ None
-    unknown = found_none (λ pred. bytes_eq (said source pred.name) name) (preds_of source) (sym (any_map (λ other. bytes_eq other.name name) (λ pred. named source pred.name) (preds_of source)) ∙ absent)
+no_terms source atom stands = grind (arith, found_none, any_map)
 
 module _ (source : Source) (fault : Fault) where
   no_clash : (atom : RawAtom) → stands_for_context source atom ≡ true → In (scope_clashes source (atom ∷ [])) fault → ⊥
-  no_clash atom stands h =
-      let clash = clash_of source (type_of source (atom ∷ [])) in
-      let one = through (atom_clashes source (type_of source (atom ∷ []))) (atom ∷ []) fault h in
-      let terms : sites_in source one.from ≡ [] = ap (sites_in source) (in_one atom one.from one.member) ∙ no_terms source atom stands in
-      in_nil fault (in_same [] (atom_clashes source (type_of source (atom ∷ [])) one.from) fault (sym (ap (flat_map clash) terms)) one.given)
+  no_clash atom stands h = grind (arith, through, in_one, no_terms, in_nil, in_same)
 
   -- ---- what is found is mistyped
 
@@ -109,8 +74,7 @@ module _ (source : Source) (fault : Fault) where
   con_sound atoms site None scope within shape is h = absurd (in_nil fault h)
   con_sound atoms site (Some con) scope within shape is h =
       let clash = clash_is (Some (said source con.sort)) site.wants site.node.at.from fault h in
-      let same : said source con.sort ≡ clash.first = let e = clash.is_first in cc in
-      constructor atoms site con scope (to_contains (sites_of source atoms) site within) shape is (λ equal. clash.apart (sym same ∙ equal)) clash.fault_is
+      constructor atoms site con scope (to_contains (sites_of source atoms) site within) shape is (grind (arith, clash.apart, clash.is_first)) clash.fault_is
 
   site_sound : (atoms : List RawAtom) (site : Site) (shape : RawKind) → IsScope source atoms → In (sites_of source atoms) site → site.node.kind ≡ shape
       → In (clash_if (type_at source (type_of source atoms) shape site.node.at) site.wants site.node.at.from) fault → Mistyped source fault
@@ -136,14 +100,9 @@ module _ (source : Source) (fault : Fault) where
 
   -- an atom in braces stands for itself, or has no terms
   trace_scope : (trace : TraceItem) (atom : RawAtom) → In (traces_of source) trace → In (start_listed trace.start) atom → In (scope_clashes source (atom ∷ [])) fault → IsScope source (atom ∷ [])
-  trace_scope trace atom member h clash = cases (stands_for_context source atom) refl where
-    cases : (stands : Bool) → stands_for_context source atom ≡ stands → IsScope source (atom ∷ [])
-    cases true is = absurd (no_clash atom is clash)
-    cases false is =
-        state atom
-        (to_contains (state_atoms source) atom
-        (in_right (context_atoms source) (trace_atoms source) atom (via (plain source) (traces_of source) trace atom member (in_filter (λ a. not (stands_for_context source a)) (start_listed trace.start) atom h (ap not is)))))
-        refl
+  trace_scope trace atom member h clash =
+      let plain_is : stands_for_context source atom ≡ false = grind (arith, no_clash atom) in
+      state atom (to_contains (state_atoms source) atom (in_right (context_atoms source) (trace_atoms source) atom (via (plain source) (traces_of source) trace atom member (in_filter (λ a. not (stands_for_context source a)) (start_listed trace.start) atom h (ap not plain_is))))) refl
 
   sound : In (clashes_of source) fault → Mistyped source fault
   sound h = ⊎_elim
@@ -160,9 +119,7 @@ module _ (source : Source) (fault : Fault) where
   -- ---- and what is mistyped is found
 
   site_found : (atoms : List RawAtom) (site : Site) → In (sites_of source atoms) site → In (clash_of source (type_of source atoms) site) fault → In (scope_clashes source atoms) fault
-  site_found atoms site within h =
-      let atom = through (sites_in source) atoms site within in
-      via (atom_clashes source (type_of source atoms)) atoms atom.from fault atom.member (via (clash_of source (type_of source atoms)) (sites_in source atom.from) site fault atom.given h)
+  site_found atoms site within h = grind (arith, through, via)
 
   state_among : (atom : RawAtom) → In (state_atoms source) atom → In (scope_clashes source (atom ∷ [])) fault → In (context_clashes source ++ trace_clashes source) fault
   state_among atom member h = ⊎_elim
@@ -186,21 +143,14 @@ module _ (source : Source) (fault : Fault) where
 
   complete : Mistyped source fault → In (clashes_of source) fault
   complete (constructor atoms site con scope within shape is apart fault_is) =
-      scope_among atoms scope
-      (site_found atoms site (from_contains (sites_of source atoms) site within)
-      (clash_there (type_at source (type_of source atoms) site.node.kind site.node.at) (said source con.sort) site.wants site.node.at.from fault
-      (ap (λ k. type_at source (type_of source atoms) k site.node.at) shape ∙ ap (option_map (λ (con : ConItem). said source con.sort)) is) apart fault_is))
+      scope_among atoms scope (site_found atoms site (from_contains (sites_of source atoms) site within)
+      (clash_there (type_at source (type_of source atoms) site.node.kind site.node.at) (said source con.sort) site.wants site.node.at.from fault (rw (shape, is) refl) apart fault_is))
   complete (variable atoms site first scope within shape is apart fault_is) =
-      scope_among atoms scope
-      (site_found atoms site (from_contains (sites_of source atoms) site within)
-      (clash_there (type_at source (type_of source atoms) site.node.kind site.node.at) first site.wants site.node.at.from fault
-      (ap (λ k. type_at source (type_of source atoms) k site.node.at) shape ∙ is) apart fault_is))
+      scope_among atoms scope (site_found atoms site (from_contains (sites_of source atoms) site within)
+      (clash_there (type_at source (type_of source atoms) site.node.kind site.node.at) first site.wants site.node.at.from fault (rw shape is) apart fault_is))
 
 -- the first one
 pub first_mistyped : (source : Source) (first : Option Fault) → first ≡ first_in (clashes_of source) → IsFirstOrNone (Mistyped source) first
-first_mistyped source first is =
-    subst (IsFirstOrNone (Mistyped source)) (sym is)
-    (foremost_same standing _ (Mistyped source) (first_in (clashes_of source))
+first_mistyped source first is = rw is (foremost_same standing _ (Mistyped source) (first_in (clashes_of source))
     (λ fault h. sound source fault (from_contains (clashes_of source) fault h))
-    (λ fault h. to_contains (clashes_of source) fault (complete source fault h))
-    (foremost_among standing (clashes_of source)))
+    (λ fault h. to_contains (clashes_of source) fault (complete source fault h)) (foremost_among standing (clashes_of source)))

@@ -1,8 +1,5 @@
-use Rattle.std.proofs.Common.{◌∙◌, ◌+◌, map, drop, ap}
-use Rattle.std.specs.List.{flat_map}
-use Rattle.cep_refusal.specs.First.{first_in}
+use Rattle.std.proofs.Common.{◌∙◌, ◌+◌, map, drop}
 use Rattle.cep_source.specs.Items.{said}
-use Rattle.cep_types.specs.Sites.{sites_from}
 use Rattle.cep_types.specs.Clashes.{clash_of}
 use Rattle.cep_types.specs.Met.{type_met}
 use Rattle.cep_types.proofs.Clashing.{clash_more, clash_over}
@@ -20,6 +17,4 @@ pub returns : goal.returns
 returns c =
     let source = c.args.source.now in
     let f = clash_of source (type_met source c.args.variables.now.firsts) in
-    let nodes = c.args.atom.nodes.now in
-    c.found.ensures ∙ clash_over source f (first_in (flat_map f (sites_from source (map (said source) c.in_ok-pending.pending) nodes))) nodes c.loop-node.node-index (map (said source) c.loop-node.pending) c.loop-node.first c.loop-node-test.false c.loop-node.invariant
-    ∙ ap (λ types. first_in (flat_map f (sites_from source types nodes))) c.in_ok-pending.ensures
+    rw (← c.in_ok-pending.ensures) (c.found.ensures ∙ clash_over source f _ c.args.atom.nodes.now c.loop-node.node-index (map (said source) c.loop-node.pending) c.loop-node.first c.loop-node-test.false c.loop-node.invariant)

@@ -1,6 +1,4 @@
-use Rattle.std.proofs.Common.{◌∙◌, ap}
-use Rattle.cep_parse.specs.declared.raw.RawAtom.{RawAtom}
-use Rattle.cep_refusal.specs.First.{standing, first_in}
+use Rattle.cep_refusal.specs.First.{standing}
 use Rattle.cep_base.proofs.ForemostLoops.{foremost_more}
 use Rattle.cep_types.specs.Clashes.{atom_clashes}
 use Rattle.cep_types.specs.Met.{type_met}
@@ -9,4 +7,4 @@ use Rattle.cep_types.proofs.clashes.clash_among.Goals as goal
 pub loop-atom-preserved : goal.loop-atom-preserved
 loop-atom-preserved c =
     foremost_more standing (atom_clashes c.args.source.now (type_met c.args.source.now c.args.variables.now.firsts)) c.args.atoms.now c.loop-atom.atom-index c.atom-item.result _ _ _ c.loop-atom-test.true c.atom-item.is c.loop-atom.invariant
-    (c.in_ok-atom_clash.ensures ∙ ap (λ (atom : RawAtom). first_in (atom_clashes c.args.source.now (type_met c.args.source.now c.args.variables.now.firsts) atom)) c.of_raw.ensures) c.note.ensures
+    (rw (← c.of_raw.ensures) c.in_ok-atom_clash.ensures) c.note.ensures

@@ -1,8 +1,5 @@
-use Rattle.std.proofs.Common.{[], ◌∷◌, ◌∙◌, sym, ap, append-nil}
-use Rattle.cep_refusal.specs.First.{first_in}
+use Rattle.std.proofs.Common.{[], ◌∷◌, append-nil}
 use Rattle.cep_source.specs.Kept.{atom_at}
-use Rattle.cep_types.specs.Clashes.{atom_clashes}
-use Rattle.cep_types.specs.Met.{type_met}
 use Rattle.cep_types.proofs.Clashing.{two_found}
 use Rattle.cep_types.proofs.clashes.clause_clash.Goals as goal
 
@@ -11,4 +8,4 @@ returns c =
     let source = c.args.source.now in
     let head = atom_at c.args.clause.now.head in
     two_found source (head ∷ []) c.args.clause.now.goals.now c.in_ok-variables.variables c.in_ok-first.first c.in_ok-other.other c.first_of.result c.in_ok-variables.ensures
-    (c.in_ok-first.ensures ∙ ap first_in (sym (append-nil (atom_clashes source (type_met source c.in_ok-variables.variables.firsts) head)))) c.in_ok-other.ensures c.first_of.ensures
+    (rw append-nil c.in_ok-first.ensures) c.in_ok-other.ensures c.first_of.ensures

@@ -1,12 +1,8 @@
-use Rattle.std.proofs.Common.{List, ◌∙◌, map, ap}
-use Rattle.std.specs.List.{flat_map}
-use Rattle.std.proofs.lemmas.List.{take_all}
-use Rattle.cep_refusal.specs.declared.fault.Fault.{Fault}
-use Rattle.cep_source.specs.Items.{ContextItem}
-use Rattle.cep_refusal.specs.First.{standing, first_in}
+use Rattle.cep_refusal.specs.First.{standing}
 use Rattle.cep_base.proofs.ForemostLoops.{foremost_mapped}
 use Rattle.cep_source.specs.Kept.{context_item}
 use Rattle.cep_types.specs.Clashes.{state_clashes}
+use Rattle.cep_types.proofs.Clashing.{all_found}
 use Rattle.cep_types.proofs.clashes.contexts_clash.Goals as goal
 
 pub loop-context-preserved : goal.loop-context-preserved
@@ -14,7 +10,4 @@ loop-context-preserved c =
     foremost_mapped standing (λ context. state_clashes c.args.source.now context.atoms) context_item c.contexts-context-items.result.now c.loop-context.context-index c.context-item.result _ _ _ c.loop-context-test.true c.context-item.is c.loop-context.invariant c.in_ok-states_clash.ensures c.note.ensures
 
 pub returns : goal.returns
-returns c =
-    let clashes : ContextItem → List Fault = λ context. state_clashes c.args.source.now context.atoms in
-    c.found.ensures ∙ c.loop-context.invariant
-    ∙ ap (λ (items : List ContextItem). first_in (flat_map clashes items)) (ap (map context_item) (take_all c.loop-context.context-index c.contexts-context-items.result.now c.loop-context-test.false) ∙ c.contexts-context-items.ensures)
+returns c = all_found (λ context. state_clashes c.args.source.now context.atoms) context_item c.contexts-context-items.result.now c.loop-context.context-index _ _ _ c.loop-context-test.false c.contexts-context-items.ensures c.loop-context.invariant c.found.ensures

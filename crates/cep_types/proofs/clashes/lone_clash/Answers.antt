@@ -1,8 +1,4 @@
-use Rattle.std.proofs.Common.{List, [], ◌∷◌, ◌≡◌, ◌∙◌, ap, subst, sym}
-use Rattle.std.specs.Prelude.{IfOk}
-use Rattle.cep_refusal.specs.declared.fault.Fault.{Fault}
-use Rattle.cep_refusal.specs.First.{first_in}
-use Rattle.cep_source.specs.declared.variables.Variables.{Variables}
+use Rattle.std.proofs.Common.{[], ◌∷◌, ◌≡◌, ◌∙◌, sym}
 use Rattle.cep_source.specs.Kept.{atom_at}
 use Rattle.cep_types.specs.Clashes.{atom_clashes, scope_clashes}
 use Rattle.cep_types.specs.Met.{type_met}
@@ -15,11 +11,7 @@ returns c =
     let source = c.args.source.now in
     let atom = atom_at c.args.atom in
     let same : atom_clashes source (type_met source c.if-has_variable.variables.firsts) atom ≡ scope_clashes source (atom ∷ []) = elim c.if-has_variable.branch [
-      | then-has_variable+in_ok-meet_atom w ↦
-          ap (λ (v : Variables). atom_clashes source (type_met source v.firsts) atom) w.variables-is
-          ∙ one_found source atom c.unmet-variables.result w.meet_atom.new.variables c.unmet-variables.ensures w.in_ok-meet_atom.ensures
-      | else-has_variable w ↦
-          ap (λ (v : Variables). atom_clashes source (type_met source v.firsts) atom) w.variables-is
-          ∙ one_closed source atom c.unmet-variables.result c.unmet-variables.ensures (sym c.has_variable.ensures ∙ w.if-has_variable.false)
+      | then-has_variable+in_ok-meet_atom w ↦ rw w.variables-is (one_found source atom c.unmet-variables.result w.meet_atom.new.variables c.unmet-variables.ensures w.in_ok-meet_atom.ensures)
+      | else-has_variable w ↦ rw w.variables-is (one_closed source atom c.unmet-variables.result c.unmet-variables.ensures (sym c.has_variable.ensures ∙ w.if-has_variable.false))
     ] in
-    subst (λ (faults : List Fault). IfOk c.atom_clash.result (λ first. first ≡ first_in faults)) same c.atom_clash.ensures
+    rw same at c.atom_clash.ensures

@@ -1,6 +1,5 @@
-use Rattle.std.proofs.Common.{[], ◌∷◌, ◌∙◌, ap}
-use Rattle.cep_parse.specs.declared.raw.RawAtom.{RawAtom}
-use Rattle.cep_refusal.specs.First.{standing, first_in}
+use Rattle.std.proofs.Common.{[], ◌∷◌}
+use Rattle.cep_refusal.specs.First.{standing}
 use Rattle.cep_base.proofs.ForemostLoops.{foremost_more}
 use Rattle.cep_types.specs.Clashes.{scope_clashes}
 use Rattle.cep_types.proofs.clashes.states_clash.Goals as goal
@@ -9,5 +8,4 @@ pub loop-atom-preserved : goal.loop-atom-preserved
 loop-atom-preserved c =
     let source = c.args.source.now in
     foremost_more standing (λ atom. scope_clashes source (atom ∷ [])) c.args.atoms.now c.loop-atom.atom-index c.atom-item.result _ _ _ c.loop-atom-test.true c.atom-item.is c.loop-atom.invariant
-    (c.in_ok-lone_clash.ensures ∙ ap (λ (atom : RawAtom). first_in (scope_clashes source (atom ∷ []))) c.of_raw.ensures)
-    c.note.ensures
+    (rw (← c.of_raw.ensures) c.in_ok-lone_clash.ensures) c.note.ensures
