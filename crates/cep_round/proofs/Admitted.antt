@@ -16,21 +16,15 @@ use Rattle.cep_round.specs.Rounds.{needs, used_with, used_after, AreAdmitted, ad
 use Rattle.cep_round.proofs.Counts.{join_count}
 
 pub as_many_flags : (program : Parts) (state used : Multiset) (offers : List Offer) (flags : List Bool) → AreAdmitted program state used offers flags → length flags ≡ length offers
-as_many_flags program state used [] [] are = refl
-as_many_flags program state used [] (flag ∷ flags) are = absurd are
-as_many_flags program state used (offer ∷ offers) [] are = absurd are
 as_many_flags program state used (offer ∷ offers) (true ∷ flags) are = ap suc (as_many_flags program state (used_with program used offer) offers flags are.1)
 as_many_flags program state used (offer ∷ offers) (false ∷ flags) are = ap suc (as_many_flags program state used offers flags are.1)
+as_many_flags program state used offers flags are = grind arith
 
 -- one offer more, which is admitted or blocked
 next_by_suc : (offers : List Offer) (flags : List Bool) (n : ℕ) (offer : Offer) → slice_get offers n ≡ Some offer → slice_get flags n ≡ Some true
     → admitted (take (suc n) offers) (take (suc n) flags) ≡ admitted (take n offers) (take n flags) ++ offer ∷ []
-next_by_suc [] flags n offer is is' = absurd cc
-next_by_suc (first ∷ offers) [] n offer is is' = absurd cc
-next_by_suc (first ∷ offers) (true ∷ flags) zero offer is is' = grind arith
-next_by_suc (first ∷ offers) (false ∷ flags) zero offer is is' = grind arith
-next_by_suc (first ∷ offers) (true ∷ flags) (suc n) offer is is' = ap (λ more. first ∷ more) (next_by_suc offers flags n offer is is')
-next_by_suc (first ∷ offers) (false ∷ flags) (suc n) offer is is' = next_by_suc offers flags n offer is is'
+next_by_suc (first ∷ offers) (t ∷ flags) (suc n) offer is is' = grind (arith, next_by_suc offers flags n offer is is')
+next_by_suc offers flags n offer is is' = grind arith
 
 same_by_suc : (offers : List Offer) (flags : List Bool) (n : ℕ) → slice_get flags n ≡ Some false → admitted (take (suc n) offers) (take (suc n) flags) ≡ admitted (take n offers) (take n flags)
 same_by_suc [] flags zero is = refl
@@ -49,10 +43,8 @@ pub next_blocked : (offers : List Offer) (flags : List Bool) (n : ℕ) → slice
 next_blocked offers flags n is = let e : n + 1 ≡ suc n = omega arith in rw e (same_by_suc offers flags n is)
 
 pub few_admitted : (offers : List Offer) (flags : List Bool) → length (admitted offers flags) ≤ length offers
-few_admitted [] flags = omega arith
-few_admitted (offer ∷ offers) [] = omega arith
-few_admitted (offer ∷ offers) (true ∷ flags) = let few = few_admitted offers flags in omega arith
-few_admitted (offer ∷ offers) (false ∷ flags) = let few = few_admitted offers flags in omega arith
+few_admitted (offer ∷ offers) (t ∷ flags) = grind (arith, few_admitted offers flags)
+few_admitted offers flags = grind arith
 
 held_few : (t : Bool) (n m : ℕ) → t ≡ true → n ≡ held t m → n ≤ 1
 held_few t n m is e = grind arith
@@ -62,10 +54,9 @@ module _ (laws : BagLaws) (program : Parts) where
   joined_once x y a is = held_few (is_fact program.signature a) _ _ is (join_count laws program x y a)
 
   pub used_once : (used : Multiset) (offers : List Offer) (flags : List Bool) → IsOnce (is_fact program.signature) used → IsOnce (is_fact program.signature) (used_after program used offers flags)
-  used_once used [] flags once = once
-  used_once used (offer ∷ offers) [] once = once
   used_once used (offer ∷ offers) (true ∷ flags) once = used_once (used_with program used offer) offers flags (joined_once used (needs program offer))
   used_once used (offer ∷ offers) (false ∷ flags) once = used_once used offers flags once
+  used_once used offers flags once = grind arith
 
   pub empty_once : IsOnce (is_fact program.signature) finite.empty
   empty_once a is = let none = laws.empty a in omega arith
@@ -74,19 +65,13 @@ module _ (laws : BagLaws) (program : Parts) where
   empty_within state a = let none = laws.empty a in omega arith
 
   pub used_within : (state used : Multiset) (offers : List Offer) (flags : List Bool) → AreAdmitted program state used offers flags → IsContained used state → IsContained (used_after program used offers flags) state
-  used_within state used [] [] are within = within
-  used_within state used [] (flag ∷ flags) are within = absurd are
-  used_within state used (offer ∷ offers) [] are within = absurd are
   used_within state used (offer ∷ offers) (true ∷ flags) are within = used_within state (used_with program used offer) offers flags are.1 are.0
   used_within state used (offer ∷ offers) (false ∷ flags) are within = used_within state used offers flags are.1 within
+  used_within state used offers flags are within = grind arith
 
 -- what is contained in a state that fits has few copies
 pub few_copies : BagLaws → (part state : Multiset) → IsBag part → IsBag state → IsContained part state → Fits state → copies_in part ≤ MOST_COPIES
-few_copies laws part state bag bag' within fits =
-    let all = ap copies_in (laws.taken_and_added state part bag' bag within) in
-    let both = laws.sum_copies (difference_of state part) part in
-    let few = fits.copies in
-    omega arith
+few_copies laws part state bag bag' within fits = omega (arith, ap copies_in (laws.taken_and_added state part bag' bag within), laws.sum_copies (difference_of state part) part, fits.copies)
 
 -- adding the atoms of a side is adding the side
 same_joined : (t : Bool) (u n m : ℕ) → m ≡ held t n → held t (u + n) ≡ held t (u + m)

@@ -1,8 +1,7 @@
 -- What several offers need and give, by counts.
-use Rattle.std.proofs.Common.{◌≡◌, inl, inr, ℕ, ◌+◌, ◌≤◌, ◌<◌, Bool, true, false, List, [], ◌∷◌, refl, sym, ap, subst, ◌∙◌, arith}
+use Rattle.std.proofs.Common.{◌≡◌, ℕ, ◌+◌, ◌≤◌, ◌<◌, Bool, true, false, List, [], ◌∷◌, ap, ◌∙◌, arith}
 use Rattle.std.specs.Prelude.{sum_by}
 use Rattle.std.specs.List.{AllByRecursion}
-use Rattle.std.proofs.lemmas.Bool.{cases_lt}
 use Rattle.std.proofs.lemmas.List.Sums.{sum_by-cons}
 use Rattle.std.specs.FinMap as finite
 use Rattle.cep_term.specs.Tree.{AtomTree}
@@ -15,28 +14,22 @@ use Rattle.cep_rule.specs.State.{joined}
 use Rattle.cep_round.specs.Rounds.{needs, sum_of_sides, all_need, AreAdmitted, admitted}
 
 held_join : (t : Bool) (x y : ℕ) → held t (x + held t y) ≡ held t (x + y)
-held_join true x y = omega arith
-held_join false x y = refl
+held_join t x y = grind arith
 
 held_none : (t : Bool) → held t 0 ≡ 0
-held_none true = refl
-held_none false = refl
+held_none t = grind arith
 
 used_too : (t : Bool) (u n s state count : ℕ) → count ≡ held t (u + n) → held t (count + s) ≤ state → held t (u + (n + s)) ≤ state
-used_too true u n s state count e within = omega arith
-used_too false u n s state count e within = omega arith
+used_too t u n s state count e within = grind arith
 
 nothing_more : (t : Bool) (u state : ℕ) → held t u ≤ state → held t (u + 0) ≤ state
-nothing_more true u state within = omega arith
-nothing_more false u state within = omega arith
+nothing_more t u state within = grind arith
 
 from_nothing : (t : Bool) (u n state : ℕ) → u ≡ 0 → held t (u + n) ≤ state → held t n ≤ state
-from_nothing true u n state e within = omega arith
-from_nothing false u n state e within = omega arith
+from_nothing t u n state e within = grind arith
 
 held_less : (t : Bool) (n m : ℕ) → n ≤ m → held t n ≤ m
-held_less true n m within = omega arith
-held_less false n m within = within
+held_less t n m within = grind arith
 
 module _ (laws : BagLaws) (program : Parts) where
   pub join_count : (x y : Multiset) (a : AtomTree) → count_of (joined program.signature x y) a ≡ held (is_fact program.signature a) (count_of x a + count_of y a)
@@ -47,45 +40,29 @@ module _ (laws : BagLaws) (program : Parts) where
   count_all side a offers = sum_by (λ (offer : Offer). count_of (side program offer) a) offers
 
   pub all_count : (side : Parts → Offer → Multiset) (offers : List Offer) (a : AtomTree) → count_of (sum_of_sides side program offers) a ≡ held (is_fact program.signature a) (count_all side a offers)
-  all_count side [] a = laws.empty a ∙ sym (held_none (is_fact program.signature a))
-  all_count side (offer ∷ offers) a =
-      join_count (side program offer) (sum_of_sides side program offers) a
-      ∙ ap (λ n. held (is_fact program.signature a) (count_of (side program offer) a + n)) (all_count side offers a)
-      ∙ held_join (is_fact program.signature a) (count_of (side program offer) a) (count_all side a offers)
-      ∙ ap (held (is_fact program.signature a)) (sym (sum_by-cons (λ (o : Offer). count_of (side program o) a) offer offers))
+  all_count side [] a = grind (arith, laws.empty a)
+  all_count side (offer ∷ offers) a = grind (arith, join_count (side program offer) (sum_of_sides side program offers) a, all_count side offers a, held_join, sum_by-cons (λ (o : Offer). count_of (side program o) a) offer offers)
 
   -- what is used, and what those need that are admitted after it, is there
   admitted_there : (state used : Multiset) (offers : List Offer) (flags : List Bool) (a : AtomTree) → AreAdmitted program state used offers flags → held (is_fact program.signature a) (count_of used a) ≤ count_of state a
       → held (is_fact program.signature a) (count_of used a + count_all needs a (admitted offers flags)) ≤ count_of state a
-  admitted_there state used [] [] a are within = nothing_more (is_fact program.signature a) (count_of used a) (count_of state a) within
-  admitted_there state used [] (flag ∷ flags) a are within = absurd are
-  admitted_there state used (offer ∷ offers) [] a are within = absurd are
-  admitted_there state used (offer ∷ offers) (true ∷ flags) a are within =
-      let next = joined program.signature used (needs program offer) in
-      subst (λ n. held (is_fact program.signature a) (count_of used a + n) ≤ count_of state a) (sym (sum_by-cons (λ (o : Offer). count_of (needs program o) a) offer (admitted offers flags)))
-      (used_too (is_fact program.signature a) (count_of used a) (count_of (needs program offer) a) (count_all needs a (admitted offers flags)) (count_of state a) (count_of next a)
-      (join_count used (needs program offer) a)
-      (admitted_there state next offers flags a are.1 (held_less (is_fact program.signature a) (count_of next a) (count_of state a) (are.0 a))))
+  admitted_there state used (offer ∷ offers) (true ∷ flags) a are within = grind (arith, sum_by-cons (λ (o : Offer). count_of (needs program o) a) offer (admitted offers flags), join_count used (needs program offer) a, admitted_there state (joined program.signature used (needs program offer)) offers flags a are.1, are.0 a)
   admitted_there state used (offer ∷ offers) (false ∷ flags) a are within = admitted_there state used offers flags a are.1 within
+  admitted_there state used offers flags a are within = grind arith
 
   pub what_is_admitted : (state : Multiset) (offers : List Offer) (flags : List Bool) → AreAdmitted program state finite.empty offers flags → IsContained (all_need program (admitted offers flags)) state
-  what_is_admitted state offers flags are a =
-      let none = laws.empty a in
-      let within = admitted_there state finite.empty offers flags a are (held_less (is_fact program.signature a) (count_of finite.empty a) (count_of state a) (omega arith)) in
-      subst (λ n. n ≤ count_of state a) (sym (all_count needs (admitted offers flags) a)) (from_nothing (is_fact program.signature a) (count_of finite.empty a) (count_all needs a (admitted offers flags)) (count_of state a) none within)
+  what_is_admitted state offers flags are a = grind (arith, laws.empty a, admitted_there state finite.empty offers flags a are, held_less, all_count needs (admitted offers flags) a)
 
 facts_within : (t : Bool) (u n state count : ℕ) → count ≡ held t (u + n) → (t ≡ false → n ≡ 0) → u ≤ state → n ≤ state → count ≤ state
-facts_within true u n state count e none used needed = elim (cases_lt 0 u) [ inl some ↦ omega arith | inr nothing ↦ omega arith ]
-facts_within false u n state count e none used needed = let nothing = none refl in omega arith
+facts_within t u n state count e none used needed = grind arith
 
 pub facts_there : BagLaws → (program : Parts) (state used : Multiset) (offer : Offer) → IsContained used state → IsContained (needs program offer) state → ((a : AtomTree) → is_fact program.signature a ≡ false → count_of (needs program offer) a ≡ 0) → IsContained (joined program.signature used (needs program offer)) state
 facts_there laws program state used offer within within' none a = grind (arith, facts_within, join_count, program.signature)
 
 pub each_admitted : (P : Offer → Type 0) (offers : List Offer) (flags : List Bool) → AllByRecursion P offers → AllByRecursion P (admitted offers flags)
-each_admitted P [] flags all = tt
-each_admitted P (offer ∷ offers) [] all = tt
 each_admitted P (offer ∷ offers) (true ∷ flags) all = (all.0, each_admitted P offers flags all.1)
 each_admitted P (offer ∷ offers) (false ∷ flags) all = each_admitted P offers flags all.1
+each_admitted P offers flags all = grind arith
 
 copies_more : (t : Bool) (u n state count : ℕ) → t ≡ false → count ≡ held t (u + n) → count ≤ state → state < u + n → ⊥
 copies_more t u n state count linear e within few = grind arith

@@ -18,9 +18,7 @@ use Rattle.cep_round.specs.Orders.{MakesFitAtoms, IsOfferDone, AreOffersDone, Fi
 
 derivations : (program : Parts) (height : ℕ) (atoms : List AtomTree) → AllByRecursion (IsDerivable program height) atoms → (proofs : List ProofTree) × AreProofs program height proofs atoms
 derivations program height [] all = ([], tt)
-derivations program height (a ∷ atoms) all =
-    let later = derivations program height atoms all.1 in
-    (all.0.proof ∷ later.0, (all.0.proves, all.0.low, later.1))
+derivations program height (a ∷ atoms) all = let later = derivations program height atoms all.1 in (all.0.proof ∷ later.0, (all.0.proves, all.0.low, later.1))
 
 -- a rule of a stage's own group leaves no stage
 stays_in_stage : (rule : Rule) (stage : ℕ) → rule.group ≡ own_group stage → IsSome rule.next ↔ (rule.group % 2 ≡ 1) → stage ≡ stage_after rule stage

@@ -144,9 +144,7 @@ module _ (laws : RoundLaws) (program : Parts) where
       new_once a is = held_few (fact a) (count_of new a) _ is (after_count a)
 
       new_count : (a : AtomTree) → count_of new a ≡ held (fact a) (count_of old a - count_of (needs program offer) a + count_of (gives program offer) a)
-      new_count a = rw (needs_left, gives_right)
-          (after_step (fact a) (count_of left a) (count_of right a) (count_of self.step.rest a) (count_of old a) (count_of new a)
-          (left_once self.applies.rule offer.values a) (given_too self.applies.rule offer.values a) (before_count a) (after_count a))
+      new_count a = grind (arith, needs_left, gives_right, after_step, left_once, given_too, before_count, after_count, self.step.rest, self.applies.rule, offer.values)
 
       need_stays : (a : AtomTree) → fact a ≡ true → 0 < count_of (needs program offer) a → 0 < count_of (gives program offer) a
       need_stays a is some = rw gives_right (given_too self.applies.rule offer.values a is (rw (← needs_left) some))
@@ -182,14 +180,13 @@ module _ (laws : RoundLaws) (program : Parts) where
         found_there height prefix order done.0 found (still_there height offer state done.0 done.1 (prefix ++ order) contained) done.2
 
     pub heights_kept : (state : Multiset) (order : List Offer) → IsContained (all_need program order) state → KeepHeights program state order
-    heights_kept state order contained prefix later offer height other found parted done applies =
-        record {
-          rule = applies.rule;
-          numbered = applies.numbered;
-          values = applies.values;
-          contained = left_there offer later applies.rule applies.numbered found (found_there other prefix (offer ∷ later) state found (rw (← parted) contained) done);
-          derivable = applies.derivable;
-        }
+    heights_kept state order contained prefix later offer height other found parted done applies = record {
+      rule = applies.rule;
+      numbered = applies.numbered;
+      values = applies.values;
+      contained = left_there offer later applies.rule applies.numbered found (found_there other prefix (offer ∷ later) state found (rw (← parted) contained) done);
+      derivable = applies.derivable;
+    }
 
     -- a run from a multiset leads to one
     pub last_bag : (height : ℕ) (order : List Offer) (state last : Multiset) → IsBag state → AreOffersDone program height state order last → IsBag last
@@ -199,13 +196,7 @@ module _ (laws : RoundLaws) (program : Parts) where
     -- facts that are needed by some are given by some
     all_stay : (height : ℕ) (order : List Offer) (state last : Multiset) → AreOffersDone program height state order last → (a : AtomTree) → fact a ≡ true → 0 < count_all laws.bags program needs a order → 0 < count_all laws.bags program gives a order
     all_stay height [] state last done a is some = some
-    all_stay height (offer ∷ order) state last done a is some =
-        let needed = sum_by-cons (λ (o : Offer). count_of (needs program o) a) offer order in
-        let given = sum_by-cons (λ (o : Offer). count_of (gives program o) a) offer order in
-        elim (cases_lt 0 (count_of (needs program offer) a)) [
-          | inl here ↦ (let own = need_stays height offer state done.0 done.1 a is here in omega arith)
-          | inr nowhere ↦ (let later = all_stay height order done.0 last done.2 a is (omega arith) in omega arith)
-        ]
+    all_stay height (offer ∷ order) state last done a is some = grind (arith, sum_by-cons (λ (o : Offer). count_of (needs program o) a) offer order, sum_by-cons (λ (o : Offer). count_of (gives program o) a) offer order, cases_lt 0 (count_of (needs program offer) a), need_stays height offer state done.0 done.1 a is, all_stay height order done.0 last done.2 a is)
 
     -- and what was done one after another is what is done together
     pub is_together : (height : ℕ) (order : List Offer) (state last : Multiset) → IsOnce fact state → IsContained (all_need program order) state → AreOffersDone program height state order last → Together program order state last

@@ -1,5 +1,5 @@
 -- Atoms of a rule that are gone through one by one.
-use Rattle.std.proofs.Common.{◌≡◌, ℕ, ◌+◌, Bool, true, false, cond, ◌||◌, List, [], ◌∷◌, ◌++◌, map, take, Some, append_assoc, append-nil, refl}
+use Rattle.std.proofs.Common.{◌≡◌, ℕ, ◌+◌, Bool, cond, ◌||◌, List, [], ◌∷◌, ◌++◌, map, take, Some, append_assoc, append-nil, arith}
 use Rattle.std.specs.Prelude.{slice_get, filter}
 use Rattle.std.proofs.lemmas.List.{map-append}
 use Rattle.std.proofs.lemmas.List.Elements.{filter-append}
@@ -22,18 +22,12 @@ pub next_right : (values : List Tree) (atoms : List AtomTree) (n : ℕ) (a : Ato
 next_right values atoms n a is = rw (take_next atoms n a is) (map_last (full_instance values) (take n atoms) a)
 
 pub next_premise : (values : List Tree) (premises : List PremiseTree) (n : ℕ) (premise : PremiseTree) → slice_get premises n ≡ Some premise → full_instances values (atoms_among (take (n + 1) premises)) ≡ full_instances values (atoms_among (take n premises)) ++ full_instance values premise.atom ∷ []
-next_premise values premises n premise is =
-    rw (take_next premises n premise is, map_last (λ (p : PremiseTree). p.atom) (take n premises) premise) (map_last (full_instance values) (atoms_among (take n premises)) premise.atom)
+next_premise values premises n premise is = grind (arith, take_next premises n premise is, map_last, premise.atom)
 
 -- those that stay, with one premise more
 pub next_staying : (signature : Signature) (values : List Tree) (premises : List PremiseTree) (n : ℕ) (premise : PremiseTree) (t : Bool) → slice_get premises n ≡ Some premise → (premise.kept || is_fact signature premise.atom) ≡ t
     → full_instances values (stay_among signature (take (n + 1) premises)) ≡ full_instances values (stay_among signature (take n premises)) ++ cond t (full_instance values premise.atom ∷ []) []
-next_staying signature values premises n premise t is stays =
-    rw (take_next premises n premise is, filter-append (λ (p : PremiseTree). p.kept || is_fact signature p.atom) (take n premises) (premise ∷ []), stays) (by t)
-  where
-    by : (t : Bool) → full_instances values (atoms_among (filter (λ (p : PremiseTree). p.kept || is_fact signature p.atom) (take n premises) ++ cond t (premise ∷ []) [])) ≡ full_instances values (stay_among signature (take n premises)) ++ cond t (full_instance values premise.atom ∷ []) []
-    by true = rw (map-append (λ (p : PremiseTree). p.atom) (filter (λ (p : PremiseTree). p.kept || is_fact signature p.atom) (take n premises)) (premise ∷ []), map-append (full_instance values) (stay_among signature (take n premises)) (premise.atom ∷ [])) refl
-    by false = rw (map-append (λ (p : PremiseTree). p.atom) (filter (λ (p : PremiseTree). p.kept || is_fact signature p.atom) (take n premises)) [], map-append (full_instance values) (stay_among signature (take n premises)) []) refl
+next_staying signature values premises n premise t is stays = grind (arith, take_next premises n premise is, filter-append (λ (p : PremiseTree). p.kept || is_fact signature p.atom) (take n premises) (premise ∷ []), map-append)
 
 -- some atoms more at the end of others
 pub added_next : (initial prefix next more old new : List AtomTree) → next ≡ prefix ++ more → old ≡ initial ++ prefix → new ≡ old ++ more → new ≡ initial ++ next

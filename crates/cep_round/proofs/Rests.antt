@@ -1,5 +1,5 @@
 -- A round has one outcome, and leaves a rest alone.
-use Rattle.std.proofs.Common.{◌≡◌, ℕ, ◌+◌, ◌-◌, ◌≤◌, Bool, true, false, List, [], ◌∷◌, refl, sym, ap, subst, ◌∙◌, arith}
+use Rattle.std.proofs.Common.{◌≡◌, ℕ, ◌+◌, ◌-◌, ◌≤◌, Bool, true, false, List, [], ◌∷◌, sym, ap, subst, ◌∙◌, arith}
 use Rattle.std.specs.List.{AllByRecursion}
 use Rattle.cep_base.proofs.Lists.{holds_at}
 use Rattle.cep_term.specs.BagLaws.{BagLaws}
@@ -17,15 +17,9 @@ use Rattle.cep_round.proofs.Counts.{join_count}
 use Rattle.cep_round.proofs.Orders.{needs_is, gives_is}
 
 pub one_flags : (program : Parts) (state used : Multiset) (offers : List Offer) (one other : List Bool) → AreAdmitted program state used offers one → AreAdmitted program state used offers other → one ≡ other
-one_flags program state used [] [] [] are are' = refl
-one_flags program state used [] [] (flag ∷ other) are are' = absurd are'
-one_flags program state used [] (flag ∷ one) other are are' = absurd are
-one_flags program state used (offer ∷ offers) [] other are are' = absurd are
-one_flags program state used (offer ∷ offers) (flag ∷ one) [] are are' = absurd are'
-one_flags program state used (offer ∷ offers) (true ∷ one) (true ∷ other) are are' = ap (λ flags. true ∷ flags) (one_flags program state (joined program.signature used (needs program offer)) offers one other are.1 are'.1)
-one_flags program state used (offer ∷ offers) (true ∷ one) (false ∷ other) are are' = absurd (are'.0 are.0)
-one_flags program state used (offer ∷ offers) (false ∷ one) (true ∷ other) are are' = absurd (are.0 are'.0)
-one_flags program state used (offer ∷ offers) (false ∷ one) (false ∷ other) are are' = ap (λ flags. false ∷ flags) (one_flags program state used offers one other are.1 are'.1)
+one_flags program state used (offer ∷ offers) (true ∷ one) (true ∷ other) are are' = grind (arith, one_flags program state (joined program.signature used (needs program offer)) offers one other are.1 are'.1, program.signature)
+one_flags program state used (offer ∷ offers) (false ∷ one) (false ∷ other) are are' = grind (arith, one_flags program state used offers one other are.1 are'.1)
+one_flags program state used offers one other are are' = grind arith
 
 pub one_together : BagLaws → (program : Parts) (offers : List Offer) (old one other : Multiset) → IsBag one → IsBag other → Together program offers old one → Together program offers old other → one ≡ other
 one_together laws program offers old one other bag bag' is is' = laws.equal one other bag bag' (λ a. is.counts a ∙ sym (is'.counts a))
