@@ -48,8 +48,6 @@ module _ (run : LegalRun) (order : List ℕ) (reorders : IsReordering run.touche
       → AreLegalSteps run.program run.height (map unlisted left) here run.last ⊎ ((number : ℕ) × IsUnfitAt run.program run.height here (map unlisted left) number)
   from done [] [] here parts stand reached =
       inl (all_reached run order here reorders.steps (subst (λ (places : List ℕ). IsReached run places here) (sym (parts ∙ append-nil done)) reached))
-  from done [] (step ∷ left) here parts stand reached = absurd stand
-  from done (place ∷ rest) [] here parts stand reached = absurd stand
   from done (place ∷ rest) (step ∷ left) here parts stand reached =
       let next = is_next run.touches order done rest place reorders parts in
       let turn : IsTurn run = record { done = done; place = place; next = next; step = step; at = stand.0; here = here; reached = reached } in
@@ -79,6 +77,7 @@ module _ (run : LegalRun) (order : List ℕ) (reorders : IsReordering run.touche
         },
       ))
       (fits_or_not new.state)
+  from done rest left here parts stand reached = absurd stand
 
   pub legal_in_order : (ordered : List LogStep) → StandAt run.steps order ordered → AreLegalSteps run.program run.height (map unlisted ordered) (start_spot run.program) run.last ⊎ ((number : ℕ) × IsUnfitAt run.program run.height (start_spot run.program) (map unlisted ordered) number)
   legal_in_order ordered stand = from [] order ordered (start_spot run.program) refl stand (reached_none run)

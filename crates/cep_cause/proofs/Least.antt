@@ -1,5 +1,5 @@
 -- The token that is picked: there is one, and one only.
-use Rattle.std.proofs.Common.{◌≡◌, ◌⊎◌, inl, inr, ⊎_elim, ℕ, ◌<◌, ◌≤◌, false, List, [], ◌∷◌, refl, sym, ap, ◌∙◌, subst, arith, Contains, eqb-true}
+use Rattle.std.proofs.Common.{◌≡◌, ◌⊎◌, inl, inr, ⊎_elim, ℕ, ◌<◌, ◌≤◌, false, List, [], ◌∷◌, sym, ap, ◌∙◌, subst, arith, Contains, eqb-true}
 use Rattle.std.proofs.lemmas.Bool.{eqb-false}
 use Rattle.cep_base.proofs.Elements.{contains_none, contains_first, contains_behind, contains_cases, contains_same}
 use Rattle.cep_term.specs.Tree.{Tree, AtomTree}
@@ -15,19 +15,14 @@ use Rattle.cep_cause.proofs.Tokened.{HaveOneNumber}
 -- One only
 
 one_pick : (signature : Signature) (present used : List Token) (a : AtomTree) (one other : Token) → HaveOneNumber present → IsPick signature present used a one → IsPick signature present used a other → one ≡ other
-one_pick signature present used a one other number is is' =
-    number one other is.can.there is'.can.there (let less = is.least other is'.can in let more = is'.least one is.can in omega arith)
+one_pick signature present used a one other number is is' = rw (number one other is.can.there is'.can.there (let less = is.least other is'.can in let more = is'.least one is.can in omega arith))
 
 pub one_picks : (signature : Signature) (values : List Tree) (present used : List Token) (premises : List PremiseTree) (ones others : List Token) → HaveOneNumber present
     → ArePicks signature values present used premises ones → ArePicks signature values present used premises others → ones ≡ others
-one_picks signature values present used [] [] [] number are are' = refl
-one_picks signature values present used [] [] (other ∷ others) number are are' = absurd are'
-one_picks signature values present used [] (one ∷ ones) others number are are' = absurd are
-one_picks signature values present used (premise ∷ premises) [] others number are are' = absurd are
-one_picks signature values present used (premise ∷ premises) (one ∷ ones) [] number are are' = absurd are'
 one_picks signature values present used (premise ∷ premises) (one ∷ ones) (other ∷ others) number are are' =
     let same = one_pick signature present used (full_instance values premise.atom) one other number are.0 are'.0 in
     ap (λ (t : Token). t ∷ ones) same ∙ ap (λ rest. other ∷ rest) (one_picks signature values present (other ∷ used) premises ones others number (subst (λ (t : Token). ArePicks signature values present (t ∷ used) premises ones) same are.1) are'.1)
+one_picks signature values present used premises ones others number are are' = grind arith
 
 -- There is one
 

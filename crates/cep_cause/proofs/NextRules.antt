@@ -1,5 +1,5 @@
 -- The rules of a block of steps are looked up one after another.
-use Rattle.std.proofs.Common.{◌≡◌, ◌⊎◌, ℕ, zero, suc, ◌+◌, ◌-◌, ◌%◌, ◌<◌, ◌≤◌, List, [], ◌∷◌, ◌++◌, length, length-append, Some, refl, ap, ◌∙◌, arith}
+use Rattle.std.proofs.Common.{◌≡◌, ◌⊎◌, ℕ, suc, ◌+◌, ◌-◌, ◌%◌, ◌<◌, ◌≤◌, List, [], ◌∷◌, ◌++◌, length, length-append, Some, ap, ◌∙◌, arith}
 use Rattle.std.specs.Prelude.{slice_get}
 use Rattle.std.proofs.lemmas.Bool.{cases_lt}
 use Rattle.std.proofs.lemmas.Option.{slice_get_within}
@@ -8,15 +8,12 @@ use Rattle.cep_log.specs.declared.log.LogStep.{LogStep}
 use Rattle.cep_cause.specs.Walking.{AreDueAt, AreRulesAt}
 
 before_last : (xs : List ℕ) (x k : ℕ) → k < length xs → slice_get (xs ++ (x ∷ [])) k ≡ slice_get xs k
-before_last [] x k less = absurd (omega arith)
-before_last (y ∷ xs) x zero less = refl
 before_last (y ∷ xs) x (suc k) less = before_last xs x k (omega arith)
+before_last xs x k less = grind arith
 
 at_last : (xs : List ℕ) (x k : ℕ) → k ≡ length xs → slice_get (xs ++ (x ∷ [])) k ≡ Some x
-at_last [] x zero is = refl
-at_last [] x (suc k) is = absurd (omega arith)
-at_last (y ∷ xs) x zero is = absurd (omega arith)
 at_last (y ∷ xs) x (suc k) is = at_last xs x k (omega arith)
+at_last xs x k is = grind arith
 
 module _ (steps : List LogStep) (order : List ℕ) where
   -- The rules of the steps from a place on, before another one.

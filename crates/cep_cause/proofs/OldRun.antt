@@ -45,9 +45,6 @@ stage_by (step ∷ steps) stage (suc n) = stage_by steps (unwrap_or step.stage s
 
 -- It is the same where no step in between names one.
 pub stage_stays : (steps : List LogStep) (stage few many : ℕ) → few ≤ many → ((place : ℕ) (step : LogStep) → few ≤ place → place < many → slice_get steps place ≡ Some step → step.stage ≡ None) → stage_by steps stage few ≡ stage_by steps stage many
-stage_stays [] stage few many less none = refl
-stage_stays (step ∷ steps) stage zero zero less none = refl
-stage_stays (step ∷ steps) stage (suc few) zero less none = omega arith
 stage_stays (step ∷ steps) stage zero (suc many) less none =
     let same : stage ≡ unwrap_or step.stage stage = ap (λ (o : Option ℕ). unwrap_or o stage) (sym (none 0 step (omega arith) (omega arith) refl)) in
     sym (first steps) ∙ stage_stays steps stage 0 many (omega arith) (λ place other few' less' at. none (suc place) other (omega arith) (omega arith) at) ∙ ap (λ s. stage_by steps s many) same
@@ -55,17 +52,16 @@ stage_stays (step ∷ steps) stage zero (suc many) less none =
     first : (steps : List LogStep) → stage_by steps stage 0 ≡ stage
     first [] = refl
     first (step ∷ steps) = refl
-stage_stays (step ∷ steps) stage (suc few) (suc many) less none =
-    stage_stays steps (unwrap_or step.stage stage) few many (omega arith) (λ place other few' less' at. none (suc place) other (omega arith) (omega arith) at)
+stage_stays (step ∷ steps) stage (suc few) (suc many) less none = rw (stage_stays steps (unwrap_or step.stage stage) few many (omega arith) (λ place other few' less' at. none (suc place) other (omega arith) (omega arith) at))
+stage_stays steps stage few many less none = grind arith
 
 pub first_stage : (steps : List LogStep) (stage : ℕ) → stage_by steps stage 0 ≡ stage
 first_stage [] stage = refl
 first_stage (step ∷ steps) stage = refl
 
 one_more : (steps : List LogStep) (stage place : ℕ) (step : LogStep) → slice_get steps place ≡ Some step → stage_by steps stage (suc place) ≡ unwrap_or step.stage (stage_by steps stage place)
-one_more [] stage place step at = none_some step at
-one_more (first ∷ steps) stage zero step at = first_stage steps (unwrap_or first.stage stage) ∙ ap (λ (s : LogStep). unwrap_or s.stage stage) (some_same first step at)
 one_more (first ∷ steps) stage (suc place) step at = one_more steps (unwrap_or first.stage stage) place step at
+one_more steps stage place step at = grind (arith, none_some, first_stage, some_same)
 
 -- One step more names its stage, or none.
 pub stage_more : (steps : List LogStep) (stage place : ℕ) (step : LogStep) → slice_get steps place ≡ Some step → stage_by steps stage (place + 1) ≡ unwrap_or step.stage (stage_by steps stage place)
@@ -116,11 +112,10 @@ module _ (program : Parts) where
 
   pub touched : (next : ℕ) (present : List Token) (steps : List LogStep) (touches : List Touch) (place : ℕ) (step : LogStep) → AreTouches program next present steps touches → slice_get steps place ≡ Some step → IsTouchedAt touches place step
   touched next present [] [] place step are at = none_some step at
-  touched next present [] (touch ∷ touches) place step are at = absurd are
-  touched next present (first ∷ steps) [] place step are at = absurd are
   touched next present (first ∷ steps) (touch ∷ touches) zero step are at =
       record { touch = touch; at = refl; does = does_to_tokens next present step touch (subst (λ (s : LogStep). IsTouch program next present s touch) (some_same first step at) are.0) }
   touched next present (first ∷ steps) (touch ∷ touches) (suc place) step are at = grind (arith, touched (next + length touch.makes) (present_after present touch) steps touches place step are.1, touch.makes, are.1)
+  touched next present steps touches place step are at = absurd are
 
   -- The step that a touch is of.
   pub record IsOfStep (steps : List LogStep) (place : ℕ) (touch : Touch) : Type 0 where
@@ -129,18 +124,14 @@ module _ (program : Parts) where
     pub does : DoesToTokens step touch
 
   pub of_step : (next : ℕ) (present : List Token) (steps : List LogStep) (touches : List Touch) (place : ℕ) (touch : Touch) → AreTouches program next present steps touches → slice_get touches place ≡ Some touch → IsOfStep steps place touch
-  of_step next present [] [] place touch are at = none_some touch at
-  of_step next present [] (first ∷ touches) place touch are at = absurd are
-  of_step next present (step ∷ steps) [] place touch are at = none_some touch at
   of_step next present (step ∷ steps) (first ∷ touches) zero touch are at =
       record { step = step; at = refl; does = does_to_tokens next present step touch (subst (λ (t : Touch). IsTouch program next present step t) (some_same first touch at) are.0) }
   of_step next present (step ∷ steps) (first ∷ touches) (suc place) touch are at = grind (arith, of_step (next + length first.makes) (present_after present first) steps touches place touch are.1, first.makes, are.1)
+  of_step next present steps touches place touch are at = grind (arith, none_some)
 
   pub as_many : (next : ℕ) (present : List Token) (steps : List LogStep) (touches : List Touch) → AreTouches program next present steps touches → length touches ≡ length steps
-  as_many next present [] [] are = refl
-  as_many next present [] (first ∷ touches) are = absurd are
-  as_many next present (step ∷ steps) [] are = absurd are
   as_many next present (step ∷ steps) (first ∷ touches) are = ap suc (as_many (next + length first.makes) (present_after present first) steps touches are.1)
+  as_many next present steps touches are = grind arith
 
   -- Tokens pass from step to step.
   pub are_passed : (next : ℕ) (present : List Token) (steps : List LogStep) (touches : List Touch) → AreTouches program next present steps touches → AreBelow program next present → ArePassed touches present

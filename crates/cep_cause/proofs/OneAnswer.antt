@@ -1,5 +1,5 @@
 -- Doing a log in an order comes to one answer.
-use Rattle.std.proofs.Common.{◌≡◌, ℕ, List, [], ◌∷◌, map, refl, sym, ap, ◌∙◌, subst, arith}
+use Rattle.std.proofs.Common.{◌≡◌, ℕ, List, ◌∷◌, map, refl, sym, ap, ◌∙◌, subst, arith}
 use Rattle.std.specs.List.{AllZip}
 use Rattle.cep_rule.specs.declared.parts.Parts.{Parts}
 use Rattle.cep_rule.specs.Steps.{Spot, start_spot}
@@ -20,18 +20,14 @@ module _ (program : Parts) (height : ℕ) where
   same_legal old new one other same legal = grind (arith, legal.rule, one.proofs, same.offer, other.offer, same.proofs, legal.machine, same.stage, legal.stage)
 
   pub same_legal_steps : (ones others : List LogStep) (old last : Spot) → AllZip DoTheSame ones others → AreLegalSteps program height others old last → AreLegalSteps program height (map unlisted ones) old last
-  same_legal_steps [] [] old last same legal = legal
-  same_legal_steps [] (other ∷ others) old last same legal = absurd same
-  same_legal_steps (one ∷ ones) [] old last same legal = absurd same
   same_legal_steps (one ∷ ones) (other ∷ others) old last same legal = (legal.0, same_legal old legal.0 one other same.0 legal.1, same_legal_steps ones others legal.0 last same.1 legal.2)
+  same_legal_steps ones others old last same legal = grind arith
 
 module _ (laws : CauseLaws) (one_text : (program : Parts) (old one other : Log) → IsRenewal program old one → IsRenewal program old other → text_of program one ≡ text_of program other)
     (program : Parts) (log : Log) (places : List ℕ) where
   -- Renewed in the order, the log has one text.
   same_text : (one other : Log) → IsRenewalIn program places log one → IsRenewalIn program places log other → text_of program one ≡ text_of program other
-  same_text one other is is' =
-      one_text program (with_steps log is.steps) one other is.renews
-      (subst (λ (steps : List LogStep). IsRenewal program (with_steps log steps) other) (stand_once log.steps places is'.steps is.steps is'.stand is.stand) is'.renews)
+  same_text one other is is' = rw (one_text program (with_steps log is.steps) one other is.renews (subst (λ (steps : List LogStep). IsRenewal program (with_steps log steps) other) (stand_once log.steps places is'.steps is.steps is'.stand is.stand) is'.renews))
 
   -- What can be renewed passes no limit.
   renewed_fits : (new : Log) (number : ℕ) → IsRenewalIn program places log new → IsUnfitIn program log places number → ⊥

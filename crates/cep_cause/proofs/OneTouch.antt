@@ -1,5 +1,5 @@
 -- Steps touch tokens in one way.
-use Rattle.std.proofs.Common.{◌≡◌, ℕ, ◌+◌, Bool, List, [], ◌∷◌, length, refl, sym, ap, ◌∙◌, subst}
+use Rattle.std.proofs.Common.{◌≡◌, ℕ, ◌+◌, List, [], ◌∷◌, length, sym, ap, ◌∙◌, subst, arith}
 use Rattle.std.specs.Prelude.{is_some}
 use Rattle.cep_base.proofs.Lists.{some_same}
 use Rattle.cep_term.specs.Multiset.{gained}
@@ -15,11 +15,7 @@ use Rattle.cep_cause.proofs.Tokened.{HaveOneNumber, one_after}
 use Rattle.cep_cause.proofs.Least.{one_picks}
 
 same_touch : (one other : Touch) → one.uses ≡ other.uses → one.removes ≡ other.removes → one.makes ≡ other.makes → one.barrier ≡ other.barrier → one ≡ other
-same_touch one other uses removes makes barrier =
-    ap (λ (u : List Token). record { uses = u; removes = one.removes; makes = one.makes; barrier = one.barrier }) uses
-    ∙ ap (λ (r : List Token). record { uses = other.uses; removes = r; makes = one.makes; barrier = one.barrier }) removes
-    ∙ ap (λ (m : List Token). record { uses = other.uses; removes = other.removes; makes = m; barrier = one.barrier }) makes
-    ∙ ap (λ (b : Bool). record { uses = other.uses; removes = other.removes; makes = other.makes; barrier = b }) barrier
+same_touch one other uses removes makes barrier = rw (uses, removes, makes, barrier)
 
 module _ (program : Parts) where
   one_touch : (next : ℕ) (present : List Token) (step : LogStep) (one other : Touch) → HaveOneNumber present → IsTouch program next present step one → IsTouch program next present step other → one ≡ other
@@ -39,11 +35,6 @@ module _ (program : Parts) where
       (is.barrier ∙ ap (λ (rule : Rule). is_some rule.next) rule ∙ sym is'.barrier)
 
   pub one_touches : (steps : List LogStep) (next : ℕ) (present : List Token) (ones others : List Touch) → AreBelow program next present → HaveOneNumber present → AreTouches program next present steps ones → AreTouches program next present steps others → ones ≡ others
-  one_touches [] next present [] [] below number are are' = refl
-  one_touches [] next present [] (other ∷ others) below number are are' = absurd are'
-  one_touches [] next present (one ∷ ones) others below number are are' = absurd are
-  one_touches (step ∷ steps) next present [] others below number are are' = absurd are
-  one_touches (step ∷ steps) next present (one ∷ ones) [] below number are are' = absurd are'
   one_touches (step ∷ steps) next present (one ∷ ones) (other ∷ others) below number are are' =
       let same = one_touch next present step one other number are.0 are'.0 in
       ap (λ (t : Touch). t ∷ ones) same
@@ -51,3 +42,4 @@ module _ (program : Parts) where
       (one_touches steps (next + length other.makes) (present_after present other) ones others
       (below_after program next present step other are'.0 below) (one_after program next present step other are'.0 below number)
       (subst (λ (t : Touch). AreTouches program (next + length t.makes) (present_after present t) steps ones) same are.1) are'.1)
+  one_touches steps next present ones others below number are are' = grind arith

@@ -38,16 +38,15 @@ module _ (laws : CauseLaws) (program : Parts) (height : ℕ) where
   -- Steps that are all legal lead to no state that does not fit.
   not_both : (prefix suffix steps : List LogStep) (step : LogStep) (old here last : Spot) (rule : Rule) (new : Multiset) → steps ≡ prefix ++ (step ∷ suffix) → AreLegalSteps program height steps old last → AreLegalSteps program height prefix old here
       → slice_get program.rules step.offer.rule ≡ Some rule → Step program.signature rule step.offer.values here.state new → (Fits new → ⊥) → ⊥
-  not_both [] suffix [] step old here last rule new parts all legal at does unfit = absurd cc
   not_both [] suffix (first ∷ steps) step old here last rule new parts all legal at does unfit =
       let same : first ≡ step = cc in
       goes old all.0 first step rule new same all.1 at (subst (λ (spot : Spot). Step program.signature rule step.offer.values spot.state new) legal does) unfit
-  not_both (one ∷ prefix) suffix [] step old here last rule new parts all legal at does unfit = absurd cc
   not_both (one ∷ prefix) suffix (first ∷ steps) step old here last rule new parts all legal at does unfit =
       let same : first ≡ one = cc in
       let rest : steps ≡ prefix ++ (step ∷ suffix) = cc in
       let next = one_next old legal.0 all.0 one legal.1 (subst (λ (s : LogStep). IsLegalStep program height old all.0 s) same all.1) in
       not_both prefix suffix steps step all.0 here last rule new rest all.2 (subst (λ (spot : Spot). AreLegalSteps program height prefix spot here) next legal.2) at does unfit
+  not_both prefix suffix steps step old here last rule new parts all legal at does unfit = absurd cc
 
   pub legal_or_unfit : (old last : Spot) (steps : List LogStep) (number : ℕ) → AreLegalSteps program height steps old last → IsUnfitAt program height old steps number → ⊥
   legal_or_unfit old last steps number legal is = not_both is.before is.after steps is.step old is.here last is.rule is.new is.parts legal is.legal is.numbered is.leads is.unfit

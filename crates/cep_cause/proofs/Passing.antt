@@ -25,20 +25,17 @@ made_later next (a ∷ atoms) token there =
 -- a token that is used is present
 pub picks_present : (signature : Signature) (values : List Tree) (present used : List Token) (premises : List PremiseTree) (tokens : List Token) (token : Token)
     → ArePicks signature values present used premises tokens → Contains tokens token → Contains present token
-picks_present signature values present used [] [] token picks there = absurd (contains_none token there)
-picks_present signature values present used [] (first ∷ tokens) token picks there = absurd picks
-picks_present signature values present used (premise ∷ premises) [] token picks there = absurd picks
 picks_present signature values present used (premise ∷ premises) (first ∷ tokens) token picks there =
     ⊎_elim
     (λ same. subst (λ (t : Token). Contains present t) same picks.0.can.there)
     (λ later. picks_present signature values present (first ∷ used) premises tokens token picks.1 later)
     (contains_cases first tokens token there)
+picks_present signature values present used premises tokens token picks there = grind arith
 
 -- a token that is removed is used
 pub removed_used : (signature : Signature) (premises : List PremiseTree) (tokens : List Token) (token : Token) → Contains (picked_to_go signature premises tokens) token → Contains tokens token
-removed_used signature [] tokens token there = absurd (contains_none token there)
-removed_used signature (premise ∷ premises) [] token there = absurd (contains_none token there)
 removed_used signature (premise ∷ premises) (first ∷ tokens) token there = grind (arith, contains_behind, contains_same, contains_cases, premise.kept, premise.atom, removed_used signature premises tokens token)
+removed_used signature premises tokens token there = grind (arith, contains_none)
 
 -- a token that is among others has its number there
 pub numbered_there : (tokens : List Token) (token : Token) → Contains tokens token → has_number tokens token.number ≡ true
@@ -47,9 +44,7 @@ numbered_there (first ∷ tokens) token there = grind (arith, numbered_there tok
 
 -- what is removed does not stay
 pub removed_gone : (removed present : List Token) (token : Token) → Contains removed token → Contains (staying removed present) token → ⊥
-removed_gone removed present token there stays =
-    let is = filter_cases (λ (t : Token). not (has_number removed t.number)) present token stays in
-    false≢true (ap not (sym (numbered_there removed token there)) ∙ is.1)
+removed_gone removed present token there stays = false≢true (ap not (sym (numbered_there removed token there)) ∙ (filter_cases (λ (t : Token). not (has_number removed t.number)) present token stays).1)
 
 -- what stays was there
 pub stayed : (removed present : List Token) (token : Token) → Contains (staying removed present) token → Contains present token
@@ -78,8 +73,6 @@ module _ (program : Parts) where
   never_again : (next : ℕ) (present : List Token) (steps : List LogStep) (touches : List Touch) (place : ℕ) (touch : Touch) (token : Token)
       → AreTouches program next present steps touches → token.number < next → (Contains present token → ⊥) → slice_get touches place ≡ Some touch → Contains touch.uses token → ⊥
   never_again next present [] [] place touch token are old gone at there = none_some touch at
-  never_again next present [] (first ∷ touches) place touch token are old gone at there = absurd are
-  never_again next present (step ∷ steps) [] place touch token are old gone at there = absurd are
   never_again next present (step ∷ steps) (first ∷ touches) zero touch token are old gone at there =
       let is = are.0 in
       gone (picks_present program.signature step.offer.values present [] is.rule.premises first.uses token is.uses (subst (λ (t : Touch). Contains t.uses token) (sym (some_same first touch at)) there))
@@ -90,6 +83,7 @@ module _ (program : Parts) where
       (λ made. let late = touch_makes next present step first token are.0 made in omega arith)
       (contains_either (staying first.removes present) first.makes token still))
       at there
+  never_again next present steps touches place touch token are old gone at there = absurd are
 
   -- The numbers of the tokens that are present are below the next one.
   abbrev pub AreBelow : ℕ → List Token → Type 0
@@ -107,8 +101,6 @@ module _ (program : Parts) where
       → AreTouches program next present steps touches → AreBelow next present → one < other → slice_get touches one ≡ Some touch → slice_get touches other ≡ Some touch'
       → Contains touch.removes token → Contains touch'.uses token → ⊥
   not_used_later next present [] [] one other touch touch' token are below earlier at at' removes uses = none_some touch at
-  not_used_later next present [] (first ∷ touches) one other touch touch' token are below earlier at at' removes uses = absurd are
-  not_used_later next present (step ∷ steps) [] one other touch touch' token are below earlier at at' removes uses = absurd are
   not_used_later next present (step ∷ steps) (first ∷ touches) one zero touch touch' token are below earlier at at' removes uses = omega arith
   not_used_later next present (step ∷ steps) (first ∷ touches) zero (suc other) touch touch' token are below earlier at at' removes uses =
       let is = are.0 in
@@ -123,13 +115,12 @@ module _ (program : Parts) where
       at' uses
   not_used_later next present (step ∷ steps) (first ∷ touches) (suc one) (suc other) touch touch' token are below earlier at at' removes uses =
       not_used_later (next + length first.makes) (present_after present first) steps touches one other touch touch' token are.1 (below_after next present step first are.0 below) (omega arith) at at' removes uses
+  not_used_later next present steps touches one other touch touch' token are below earlier at at' removes uses = absurd are
 
   -- A token that a step uses was present at first, or an earlier step made it.
   pub comes_from : (next : ℕ) (present : List Token) (steps : List LogStep) (touches : List Touch) (place : ℕ) (touch : Touch) (token : Token)
       → AreTouches program next present steps touches → slice_get touches place ≡ Some touch → Contains touch.uses token → Contains present token ⊎ IsMadeBefore touches place token
   comes_from next present [] [] place touch token are at there = none_some touch at
-  comes_from next present [] (first ∷ touches) place touch token are at there = absurd are
-  comes_from next present (step ∷ steps) [] place touch token are at there = absurd are
   comes_from next present (step ∷ steps) (first ∷ touches) zero touch token are at there =
       let is = are.0 in
       inl (picks_present program.signature step.offer.values present [] is.rule.premises first.uses token is.uses (subst (λ (t : Touch). Contains t.uses token) (sym (some_same first touch at)) there))
@@ -141,3 +132,4 @@ module _ (program : Parts) where
       (contains_either (staying first.removes present) first.makes token here))
       (λ is. inr (made_behind first touches place token is))
       (comes_from (next + length first.makes) (present_after present first) steps touches place touch token are.1 at there)
+  comes_from next present steps touches place touch token are at there = absurd are

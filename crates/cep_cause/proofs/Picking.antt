@@ -4,7 +4,7 @@ use Rattle.std.specs.Prelude.{nat_lt}
 use Rattle.std.specs.List.{filter, sum_by}
 use Rattle.std.proofs.lemmas.Bool.{false≢true}
 use Rattle.std.proofs.lemmas.List.Sums.{sum_by-cons}
-use Rattle.cep_base.proofs.Elements.{contains_none, contains_first, contains_behind, contains_cases}
+use Rattle.cep_base.proofs.Elements.{contains_first, contains_behind, contains_cases}
 use Rattle.cep_term.specs.Tree.{Tree, AtomTree}
 use Rattle.cep_term.specs.BagLaws.{BagLaws}
 use Rattle.cep_term.specs.Multiset.{Multiset, count_of, with_one, gathered, gained}
@@ -20,33 +20,22 @@ use Rattle.cep_cause.proofs.Passing.{removed_used}
 abbrev pub linear_of : Signature → List Token → List Token
 linear_of signature tokens = filter (λ (token : Token). not (is_fact signature token.atom)) tokens
 
--- the premises that do not stay
-abbrev pub goers : Signature → List PremiseTree → List PremiseTree
-goers signature premises = filter (λ (premise : PremiseTree). not (premise.kept || is_fact signature premise.atom)) premises
-
 module _ (signature : Signature) (values : List Tree) (present : List Token) where
   -- the atoms of what is picked
   pub picks_atoms : (used : List Token) (premises : List PremiseTree) (tokens : List Token) → ArePicks signature values present used premises tokens
       → full_instances values (map (λ (premise : PremiseTree). premise.atom) premises) ≡ token_atoms tokens
-  picks_atoms used [] [] picks = refl
-  picks_atoms used [] (token ∷ tokens) picks = absurd picks
-  picks_atoms used (premise ∷ premises) [] picks = absurd picks
   picks_atoms used (premise ∷ premises) (token ∷ tokens) picks = grind (arith, picks_atoms (token ∷ used) premises tokens picks.1, picks.1, picks.0.can.of_atom)
+  picks_atoms used premises tokens picks = grind arith
 
   -- the atoms of what is removed
   pub removed_atoms : (used : List Token) (premises : List PremiseTree) (tokens : List Token) → ArePicks signature values present used premises tokens
       → full_instances values (map (λ (premise : PremiseTree). premise.atom) (filter (λ (premise : PremiseTree). not (premise.kept || is_fact signature premise.atom)) premises)) ≡ token_atoms (picked_to_go signature premises tokens)
-  removed_atoms used [] [] picks = refl
-  removed_atoms used [] (token ∷ tokens) picks = absurd picks
-  removed_atoms used (premise ∷ premises) [] picks = absurd picks
   removed_atoms used (premise ∷ premises) (token ∷ tokens) picks = grind (arith, premise.kept, premise.atom, removed_atoms (token ∷ used) premises tokens picks.1, picks.1, picks.0.can.of_atom)
+  removed_atoms used premises tokens picks = grind arith
 
   -- A linear token that is picked was not used.
   pub picks_apart : (used : List Token) (premises : List PremiseTree) (tokens : List Token) (token : Token) → ArePicks signature values present used premises tokens
       → Contains tokens token → is_fact signature token.atom ≡ false → Contains used token → ⊥
-  picks_apart used [] [] token picks there linear was = contains_none token there
-  picks_apart used [] (first ∷ tokens) token picks there linear was = absurd picks
-  picks_apart used (premise ∷ premises) [] token picks there linear was = absurd picks
   picks_apart used (premise ∷ premises) (first ∷ tokens) token picks there linear was =
       ⊎_elim
       (λ same.
@@ -54,6 +43,7 @@ module _ (signature : Signature) (values : List Tree) (present : List Token) whe
       picks.0.can.unused (ap (is_fact signature) (sym picks.0.can.of_atom) ∙ is) (subst (λ (t : Token). Contains used t) (sym same) was))
       (λ later. picks_apart (first ∷ used) premises tokens token picks.1 later linear (contains_behind first used token was))
       (contains_cases first tokens token there)
+  picks_apart used premises tokens token picks there linear was = grind arith
 
   is_linear : (tokens : List Token) (token : Token) → Contains (linear_of signature tokens) token → Contains tokens token × (is_fact signature token.atom ≡ false)
   is_linear tokens token there = let is = filter_cases (λ (token : Token). not (is_fact signature token.atom)) tokens token there in (is.0, not_true (is_fact signature token.atom) is.1)
@@ -67,21 +57,16 @@ module _ (signature : Signature) (values : List Tree) (present : List Token) whe
 
   -- No linear token is picked twice.
   pub picks_differ : (used : List Token) (premises : List PremiseTree) (tokens : List Token) → ArePicks signature values present used premises tokens → Differ (linear_of signature tokens)
-  picks_differ used [] [] picks = tt
-  picks_differ used [] (first ∷ tokens) picks = absurd picks
-  picks_differ used (premise ∷ premises) [] picks = absurd picks
   picks_differ used (premise ∷ premises) (first ∷ tokens) picks = by (is_fact signature first.atom) (picks_differ (first ∷ used) premises tokens picks.1)
     where
       by : (t : Bool) → Differ (linear_of signature tokens) → Differ (cond (not t) (first ∷ linear_of signature tokens) (linear_of signature tokens))
       by true rest = rest
       by false rest =
           (λ there. let is = is_linear tokens first there in picks_apart (first ∷ used) premises tokens first picks.1 is.0 is.1 (contains_first first used), rest)
+  picks_differ used premises tokens picks = grind arith
 
   -- Nothing is removed twice.
   pub removes_differ : (used : List Token) (premises : List PremiseTree) (tokens : List Token) → ArePicks signature values present used premises tokens → Differ (picked_to_go signature premises tokens)
-  removes_differ used [] [] picks = tt
-  removes_differ used [] (first ∷ tokens) picks = absurd picks
-  removes_differ used (premise ∷ premises) [] picks = absurd picks
   removes_differ used (premise ∷ premises) (first ∷ tokens) picks = by (premise.kept || is_fact signature premise.atom) refl (removes_differ (first ∷ used) premises tokens picks.1)
     where
       linear : (s t : Bool) → (s || t) ≡ false → t ≡ false
@@ -97,6 +82,7 @@ module _ (signature : Signature) (values : List Tree) (present : List Token) whe
             (contains_first first used),
         rest,
       )
+  removes_differ used premises tokens picks = grind arith
 
 -- Copies of an atom
 

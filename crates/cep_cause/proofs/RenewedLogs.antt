@@ -30,16 +30,13 @@ pub record IsRenewedAs (program : Parts) (old : Log) (text : List ℕ) : Type 0 
 -- Ends
 
 same_end : (program : Parts) (height : ℕ) (last : Spot) (end : Option LogEnd) → IsSomeAnd end (IsLegalEnd program height last) → EndTheSame end (end_at end last.state)
-same_end program height last None legal = absurd legal
-same_end program height last (Some end) legal = (refl, legal.state)
+same_end program height last end legal = grind arith
 
 legal_end : (program : Parts) (height : ℕ) (last : Spot) (end : Option LogEnd) → IsSomeAnd end (IsLegalEnd program height last) → IsSomeAnd (end_at end last.state) (IsLegalEnd program height last)
-legal_end program height last None legal = legal
-legal_end program height last (Some end) legal = record { quiet = legal.quiet; state = refl }
+legal_end program height last end legal = grind arith
 
 listed_end : (program : Parts) (height : ℕ) (last : Spot) (end : Option LogEnd) → IsSomeAnd end (IsLegalEnd program height last) → IfSome end (λ end. IsListing program.signature end.state) → IfSome (end_at end last.state) (λ end. IsListing program.signature end.state)
-listed_end program height last None legal is = tt
-listed_end program height last (Some end) legal is = subst (IsListing program.signature) legal.state is
+listed_end program height last end legal is = grind arith
 
 -- Logs that do the same
 
@@ -47,20 +44,11 @@ does_both : (one other last : LogStep) → DoTheSame one other → DoTheSame oth
 does_both one other last a b = record { offer = a.offer ∙ b.offer; proofs = a.proofs ∙ b.proofs; stage = a.stage ∙ b.stage }
 
 do_both : (steps others lasts : List LogStep) → AllZip DoTheSame steps others → AllZip SayTheSame others lasts → AllZip DoTheSame steps lasts
-do_both [] [] [] a b = tt
-do_both [] [] (last ∷ lasts) a b = absurd b
-do_both [] (other ∷ others) lasts a b = absurd a
-do_both (step ∷ steps) [] lasts a b = absurd a
-do_both (step ∷ steps) (other ∷ others) [] a b = absurd b
 do_both (step ∷ steps) (other ∷ others) (last ∷ lasts) a b = (does_both step other last a.0 b.0.does, do_both steps others lasts a.1 b.1)
+do_both steps others lasts a b = grind arith
 
 ends_both : (one other last : Option LogEnd) → EndTheSame one other → EndTheSame other last → EndTheSame one last
-ends_both None None None a b = tt
-ends_both None None (Some last) a b = absurd b
-ends_both None (Some other) last a b = absurd a
-ends_both (Some one) None last a b = absurd a
-ends_both (Some one) (Some other) None a b = absurd b
-ends_both (Some one) (Some other) (Some last) a b = (a.0 ∙ b.0, a.1 ∙ b.1)
+ends_both one other last a b = grind arith
 
 -- Lines without remarks
 
@@ -84,7 +72,6 @@ module _ (program : Parts) (is : IsProgram program) (log : Log) (legal : IsLegal
       let start = start_texts program new in
       let steps = steps_texts program 1 lines.new in
       let ends = end_texts program end in
-      let last_is : last_lines program.signature log.end last.state ≡ flat_map line ends = last_written program log.end last.state in
       record {
         new = new;
         renews = record {
@@ -110,7 +97,7 @@ module _ (program : Parts) (is : IsProgram program) (log : Log) (legal : IsLegal
         };
         written = is_text ∙ ap (λ front. front ++ (bytes ++ last_lines program.signature log.end last.state)) (header_written program log.height)
             ∙ ap (λ front. flat_map line start ++ (front ++ last_lines program.signature log.end last.state)) lines.written
-            ∙ ap (λ behind. flat_map line start ++ (flat_map line steps ++ behind)) last_is
+            ∙ ap (λ behind. flat_map line start ++ (flat_map line steps ++ behind)) (last_written program log.end last.state)
             ∙ ap (λ behind. flat_map line start ++ behind) (sym (flat_map-append line steps ends))
             ∙ sym (flat_map-append line start (steps ++ ends));
       }

@@ -30,9 +30,8 @@ module _ (laws : CauseLaws) (program : Parts) (is : IsProgram program) (height :
   -- Single steps
 
   all_of_shape : (proofs : List ProofTree) (atoms : List AtomTree) → AreProofs program height proofs atoms → AllByRecursion (IsProofOf program) proofs
-  all_of_shape [] atoms are = tt
-  all_of_shape (proof ∷ proofs) [] are = absurd are
   all_of_shape (proof ∷ proofs) (a ∷ atoms) are = (laws.shapes program proof a are.0, all_of_shape proofs atoms are.2)
+  all_of_shape proofs atoms are = grind arith
 
   -- a legal step can be put
   pub legal_put : (old new : Spot) (step : LogStep) → IsStepOf program step → IsLegalStep program height old new step → CanBePut program step

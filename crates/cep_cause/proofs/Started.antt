@@ -41,9 +41,4 @@ module _ (laws : BagLaws) where
 
     -- of each atom there are as many tokens as copies
     pub start_counts : (state : Multiset) → count_of (gathered (token_atoms (start_tokens state))) a ≡ count_of state a
-    start_counts state =
-        let all = all_entries finite.empty (finite.entries state) in
-        let sum = laws.sum finite.empty state a in
-        let none = laws.empty a in
-        let atoms = ap (λ (atoms : List AtomTree). count_of (gathered atoms) a) (numbered_atoms laws a 0 (listed_copies state)) in
-        omega arith
+    start_counts state = omega (arith, all_entries finite.empty (finite.entries state), laws.sum finite.empty state a, laws.empty a, ap (λ (atoms : List AtomTree). count_of (gathered atoms) a) (numbered_atoms laws a 0 (listed_copies state)))

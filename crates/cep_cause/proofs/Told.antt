@@ -48,10 +48,8 @@ not_longer touches order is =
     omega arith
 
 pub stand_long : {X : Type 0} (all : List X) (order : List ℕ) (xs : List X) → StandAt all order xs → length xs ≡ length order
-stand_long all [] [] at = refl
-stand_long all [] (x ∷ xs) at = absurd at
-stand_long all (place ∷ order) [] at = absurd at
 stand_long all (place ∷ order) (x ∷ xs) at = ap suc (stand_long all order xs at.1)
+stand_long all order xs at = grind arith
 
 -- The steps stand in a list where an order has them.
 pub stand : {X : Type 0} (all : List X) (order : List ℕ) → ((place : ℕ) → Contains order place → place < length all) → (xs : List X) × StandAt all order xs
@@ -62,7 +60,5 @@ stand all (place ∷ order) within =
     (first.0 ∷ rest.0, (first.1, rest.1))
 
 pub stand_all : {X : Type 0} (P : X → Type 0) (all : List X) (order : List ℕ) (xs : List X) → AllByRecursion P all → StandAt all order xs → AllByRecursion P xs
-stand_all P all [] [] holds at = tt
-stand_all P all [] (x ∷ xs) holds at = absurd at
-stand_all P all (place ∷ order) [] holds at = absurd at
 stand_all P all (place ∷ order) (x ∷ xs) holds at = (holds_at P all place x holds at.0, stand_all P all order xs holds at.1)
+stand_all P all order xs holds at = grind arith

@@ -1,5 +1,5 @@
 -- A legal log touches tokens: those that are present are the state, so there is a pick for each premise.
-use Rattle.std.proofs.Common.{◌≡◌, inl, inr, ⊎_elim, ℕ, ◌+◌, ◌<◌, ◌≤◌, Bool, true, false, List, [], ◌∷◌, ◌++◌, map, length, refl, sym, ap, ◌∙◌, subst, arith, Contains}
+use Rattle.std.proofs.Common.{◌≡◌, inl, inr, ⊎_elim, ℕ, ◌+◌, ◌<◌, ◌≤◌, Bool, true, false, List, [], ◌∷◌, ◌++◌, map, length, refl, sym, ap, ◌∙◌, arith, Contains}
 use Rattle.std.specs.Prelude.{is_some}
 use Rattle.std.proofs.lemmas.Bool.{false≢true}
 use Rattle.cep_base.proofs.Lists.{some_same, holds_at}
@@ -211,21 +211,17 @@ module _ (laws : CauseLaws) (program : Parts) (is : IsProgram program) (height :
   -- The tokens after all of them are the last state.
   pub tokens_after_all : (steps : List LogStep) (touches : List Touch) (next : ℕ) (present : List Token) (here last : Spot) → AreTokensOf next present here.state → IsState program.signature here.state → AreLegalSteps program height steps here last
       → AreTouches program next present steps touches → (a : AtomTree) → count_of (token_state (present_after_all present touches)) a ≡ count_of last.state a
-  tokens_after_all [] [] next present here last tokens is_state legal are a = tokens.counts a ∙ ap (λ (spot : Spot). count_of spot.state a) (sym legal)
-  tokens_after_all [] (touch ∷ touches) next present here last tokens is_state legal are a = absurd are
-  tokens_after_all (step ∷ steps) [] next present here last tokens is_state legal are a = absurd are
   tokens_after_all (step ∷ steps) (touch ∷ touches) next present here last tokens is_state legal are a =
       tokens_after_all steps touches (next + length touch.makes) (present_after present touch) legal.0 last
       (tokens_after next present step here legal.0 tokens is_state legal.1 touch are.0) (state_leads next present step here legal.0 tokens is_state legal.1 touch are.0) legal.2 are.1 a
+  tokens_after_all steps touches next present here last tokens is_state legal are a = grind arith
 
   last_is_state : (steps : List LogStep) (touches : List Touch) (next : ℕ) (present : List Token) (here last : Spot) → AreTokensOf next present here.state → IsState program.signature here.state → AreLegalSteps program height steps here last
       → AreTouches program next present steps touches → IsState program.signature last.state
-  last_is_state [] [] next present here last tokens is_state legal are = subst (λ (spot : Spot). IsState program.signature spot.state) (sym legal) is_state
-  last_is_state [] (touch ∷ touches) next present here last tokens is_state legal are = absurd are
-  last_is_state (step ∷ steps) [] next present here last tokens is_state legal are = absurd are
   last_is_state (step ∷ steps) (touch ∷ touches) next present here last tokens is_state legal are =
       last_is_state steps touches (next + length touch.makes) (present_after present touch) legal.0 last
       (tokens_after next present step here legal.0 tokens is_state legal.1 touch are.0) (state_leads next present step here legal.0 tokens is_state legal.1 touch are.0) legal.2 are.1
+  last_is_state steps touches next present here last tokens is_state legal are = grind arith
 
   pub tokens_are_the_state : (steps : List LogStep) (touches : List Touch) (last : Spot) → AreLegalSteps program height steps (start_spot program) last
       → AreTouches program (length (start_tokens program.start)) (start_tokens program.start) steps touches → token_state (present_after_all (start_tokens program.start) touches) ≡ last.state

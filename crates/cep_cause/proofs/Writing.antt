@@ -1,5 +1,5 @@
 -- A log is told in an order step by step: whatever its steps in the order are, if the log with them is legal it is being renewed, or too long.
-use Rattle.std.proofs.Common.{◌≡◌, ◌⊎◌, inl, inr, ⊎_elim, ℕ, zero, suc, ◌+◌, ◌<◌, ◌≤◌, Bool, false, List, [], ◌∷◌, ◌++◌, map, length, drop, length-append, Some, refl, sym, ap, ◌∙◌, subst, arith}
+use Rattle.std.proofs.Common.{◌≡◌, ◌⊎◌, inl, inr, ⊎_elim, ℕ, suc, ◌+◌, ◌<◌, ◌≤◌, Bool, false, List, [], ◌∷◌, ◌++◌, map, length, drop, length-append, Some, refl, sym, ap, ◌∙◌, subst, arith}
 use Rattle.std.specs.Prelude.{slice_get, IsTrue, ◌↔◌}
 use Rattle.std.proofs.lemmas.Bool.{false≢true}
 use Rattle.std.proofs.lemmas.List.{drop_all}
@@ -32,10 +32,8 @@ not_long is text untrue tests = let short : ¬ (MOST_LOG < length text) = λ lon
 
 -- the step at a place of the order
 unlisted_at : (all : List LogStep) (places : List ℕ) (listed : List LogStep) (i place : ℕ) (step : LogStep) → StandAt all places listed → slice_get places i ≡ Some place → slice_get all place ≡ Some step → slice_get (map unlisted listed) i ≡ Some (unlisted step)
-unlisted_at all [] listed i place step stand at there = none_some place at
-unlisted_at all (first ∷ places) [] i place step stand at there = absurd stand
-unlisted_at all (first ∷ places) (x ∷ listed) zero place step stand at there = grind (arith, some_same, stand.0)
 unlisted_at all (first ∷ places) (x ∷ listed) (suc i) place step stand at there = unlisted_at all places listed i place step stand.1 at there
+unlisted_at all places listed i place step stand at there = grind (arith, none_some, some_same)
 
 -- Whatever its steps in the order are, the log with them is told so far, if it is legal.
 abbrev pub IsTelling : Parts → Log → List ℕ → ℕ → List ℕ → Spot → Type 0
