@@ -1,5 +1,5 @@
 -- The graph, step by step.
-use Rattle.std.proofs.Common.{◌≡◌, ◌↔◌, ◌⊎◌, inl, inr, ⊎_elim, ℕ, zero, suc, ◌+◌, ◌<◌, ◌≤◌, Bool, List, [], ◌∷◌, ◌++◌, length, take, drop, Some, refl, sym, ap, ◌∙◌, subst, arith, Contains}
+use Rattle.std.proofs.Common.{◌≡◌, ◌⊎◌, inl, inr, ⊎_elim, ℕ, zero, suc, ◌+◌, ◌<◌, ◌≤◌, List, [], ◌∷◌, ◌++◌, length, take, drop, Some, sym, ap, ◌∙◌, subst, arith}
 use Rattle.std.specs.Prelude.{slice_get, is_some}
 use Rattle.std.proofs.lemmas.List.{length-take-le, length-append}
 use Rattle.std.proofs.lemmas.Option.{slice_get_within}
@@ -14,10 +14,10 @@ use Rattle.cep_log.specs.declared.log.LogStep.{LogStep}
 use Rattle.cep_order.specs.declared.step_cause.StepCause.{StepCause}
 use Rattle.cep_cause.specs.Tokens.{Token, listed_copies, start_tokens}
 use Rattle.cep_cause.specs.Touches.{Touch, present_after, IsTouch, AreTouches, AreTouchesOf}
-use Rattle.cep_cause.specs.Graphs.{RestsOnAt, IsCause, AreCauses, IsGraph}
+use Rattle.cep_cause.specs.Graphs.{IsCause, IsGraph}
 use Rattle.cep_graph.specs.Queues.{Queues}
 use Rattle.cep_graph.specs.Traces.{AreOfStart}
-use Rattle.cep_graph.specs.Trails.{IsTrail, IsTouchBy, HasTouched, TouchesBy}
+use Rattle.cep_graph.specs.Trails.{IsTrail, IsTouchBy, TouchesBy}
 use Rattle.cep_graph.proofs.Taken.{drop_next}
 use Rattle.cep_graph.proofs.Trailing.{numbered_increase, numbered_below}
 
@@ -32,10 +32,8 @@ pub record IsSoFar (program : Parts) (log : Log) (touches : List Touch) (i : ℕ
   pub entries : (place : ℕ) (touch : Touch) (cause : StepCause) → slice_get touches place ≡ Some touch → slice_get causes place ≡ Some cause → IsCause touches place touch cause
 
 touches_many : (program : Parts) (next : ℕ) (present : List Token) (steps : List LogStep) (touches : List Touch) → AreTouches program next present steps touches → length steps ≡ length touches
-touches_many program next present [] [] are = refl
-touches_many program next present [] (touch ∷ touches) are = absurd are
-touches_many program next present (step ∷ steps) [] are = absurd are
 touches_many program next present (step ∷ steps) (touch ∷ touches) are = let rest = touches_many program (next + length touch.makes) (present_after present touch) steps touches are.1 in omega arith
+touches_many program next present steps touches are = grind arith
 
 -- The first of the touches.
 record HasFirst (program : Parts) (next : ℕ) (present : List Token) (step : LogStep) (steps : List LogStep) (touches : List Touch) : Type 0 where
@@ -46,8 +44,7 @@ record HasFirst (program : Parts) (next : ℕ) (present : List Token) (step : Lo
   are : AreTouches program (next + length touch.makes) (present_after present touch) steps others
 
 first_touch : (program : Parts) (next : ℕ) (present : List Token) (step : LogStep) (steps : List LogStep) (touches : List Touch) → AreTouches program next present (step ∷ steps) touches → HasFirst program next present step steps touches
-first_touch program next present step steps [] are = absurd are
-first_touch program next present step steps (touch ∷ touches) are = record { touch = touch; others = touches; parts = refl; is = are.0; are = are.1 }
+first_touch program next present step steps touches are = grind arith
 
 drop_first : {X : Type 0} (xs : List X) (i : ℕ) (x : X) (ys : List X) → drop i xs ≡ x ∷ ys → slice_get xs i ≡ Some x
 drop_first [] zero x ys e = cc
@@ -62,17 +59,13 @@ taken_at (first ∷ xs) (suc i) zero x at = (omega arith, at)
 taken_at (first ∷ xs) (suc i) (suc e) x at = let rest = taken_at xs i e x at in (omega (arith, rest.0), rest.1)
 
 at_taken : {X : Type 0} (xs : List X) (i e : ℕ) (x : X) → e < i → slice_get xs e ≡ Some x → slice_get (take i xs) e ≡ Some x
-at_taken xs zero e x less at = absurd (omega arith)
-at_taken [] (suc i) e x less at = none_some x at
-at_taken (first ∷ xs) (suc i) zero x less at = at
 at_taken (first ∷ xs) (suc i) (suc e) x less at = at_taken xs i e x (omega arith) at
+at_taken xs i e x less at = grind (arith, none_some)
 
 -- an entry more
 entry_at : (causes : List StepCause) (cause x : StepCause) (place : ℕ) → slice_get (causes ++ cause ∷ []) place ≡ Some x → (slice_get causes place ≡ Some x) ⊎ ((place ≡ length causes) × (cause ≡ x))
-entry_at [] cause x zero at = inr (refl, some_same cause x at)
-entry_at [] cause x (suc place) at = none_some x at
-entry_at (first ∷ causes) cause x zero at = inl at
 entry_at (first ∷ causes) cause x (suc place) at = ⊎_elim (λ earlier. inl earlier) (λ last. inr (ap suc last.0, last.1)) (entry_at causes cause x place at)
+entry_at causes cause x place at = grind (arith, some_same, none_some)
 
 pub none_so_far : (program : Parts) (log : Log) (touches : List Touch) (queues : Queues) (causes : List StepCause) → causes ≡ [] → AreTouchesOf program log touches → AreOfStart (listed_copies program.start) queues → IsSoFar program log touches 0 queues causes
 none_so_far program log touches queues causes none are starts = record {
@@ -100,11 +93,10 @@ one_more program log touches i old new causes causes' step rule number cause at 
     let here : slice_get touches i ≡ Some first.touch = drop_first touches i first.touch first.others first.parts in
     let others : first.others ≡ drop (i + 1) touches = (let both : first.touch ∷ first.others ≡ first.touch ∷ drop (i + 1) touches = sym first.parts ∙ drop_next touches i first.touch here in cc) in
     let within = slice_get_within touches i first.touch here in
-    let long : length (take i touches) ≡ i = length-take-le i touches (omega arith) in
     let done : take (i + 1) touches ≡ take i touches ++ first.touch ∷ [] = take_next touches i first.touch here in
     let same : first.is.rule ≡ rule = some_same first.is.rule rule (sym first.is.numbered_by ∙ numbered) in
     let by : IsTouchBy program.signature step.offer.values rule so_far.next so_far.present first.touch = subst (λ (r : Rule). IsTouchBy program.signature step.offer.values r so_far.next so_far.present first.touch) same (record { uses = first.is.uses; removes = first.is.removes; makes = first.is.makes }) in
-    let has = does (take i touches) so_far.present so_far.next first.touch (last ∙ ap (λ n. n + 1) (sym long)) so_far.trail by in
+    let has = does (take i touches) so_far.present so_far.next first.touch (last ∙ ap (λ n. n + 1) (sym (length-take-le i touches (omega arith)))) so_far.trail by in
     let entry : IsCause touches i first.touch cause = record {
       barrier = barrier ∙ ap (λ (r : Rule). is_some r.next) (sym same) ∙ sym first.is.barrier;
       increasing = has.increasing;

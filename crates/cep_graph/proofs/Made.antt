@@ -1,5 +1,5 @@
 -- Tokens are made for one right atom after another.
-use Rattle.std.proofs.Common.{◌≡◌, ◌↔◌, ◌⊎◌, inl, inr, ⊎_elim, ℕ, zero, suc, ◌+◌, ◌<◌, ◌≤◌, Bool, true, false, cond, not, ◌&&◌, List, [], ◌∷◌, ◌++◌, length, map, refl, sym, ap, ◌∙◌, subst, arith, append_assoc, append-nil, Contains}
+use Rattle.std.proofs.Common.{◌≡◌, ◌⊎◌, ⊎_elim, ℕ, ◌+◌, ◌<◌, Bool, true, false, cond, ◌&&◌, List, [], ◌∷◌, ◌++◌, length, refl, sym, ap, ◌∙◌, subst, arith, append_assoc, append-nil, Contains}
 use Rattle.std.specs.Prelude.{nat_lt, ◌≢◌}
 use Rattle.std.specs.List.{AllZip, filter}
 use Rattle.std.specs.Ordering.{eq_by_cmp}
@@ -7,10 +7,10 @@ use Rattle.std.proofs.lemmas.Bool.{false≢true}
 use Rattle.std.proofs.lemmas.Bool.Decides.{nat_tests}
 use Rattle.std.proofs.lemmas.List.{map-append}
 use Rattle.cep_base.proofs.Lists.{zip_push}
-use Rattle.cep_base.proofs.Elements.{contains_none, contains_first, contains_behind, contains_cases, contains_same, contains_left, contains_right, contains_either, contains_map, ComesFrom, map_cases}
+use Rattle.cep_base.proofs.Elements.{contains_none, contains_first, contains_behind, contains_cases, contains_same, contains_left, contains_right, contains_map, map_cases}
 use Rattle.cep_term.specs.Tree.{Tree, AtomTree}
 use Rattle.cep_term.specs.Order.{atom_cmp}
-use Rattle.cep_term.specs.Multiset.{Multiset, count_of, with_one, gathered, gained}
+use Rattle.cep_term.specs.Multiset.{count_of, with_one, gathered, gained}
 use Rattle.cep_term.specs.BagLaws.{BagLaws}
 use Rattle.cep_rule.specs.declared.signature.Signature.{Signature}
 use Rattle.cep_rule.specs.Typing.{is_fact}
@@ -19,7 +19,7 @@ use Rattle.cep_cause.specs.Tokens.{Token, numbered, token_atoms, token_state}
 use Rattle.cep_cause.specs.Touches.{Touch}
 use Rattle.cep_graph.specs.declared.trace.Trace.{Trace}
 use Rattle.cep_graph.specs.Queues.{Queues, queue_of, Changes, GetsId}
-use Rattle.cep_graph.specs.Traces.{tokens_of, IsTrace, AreTraced, AreFresh, made_for, MakesFor}
+use Rattle.cep_graph.specs.Traces.{tokens_of, IsTrace, AreTraced, made_for, MakesFor}
 use Rattle.cep_graph.proofs.Rows.{itself, same_atom}
 use Rattle.cep_graph.proofs.Oldest.{filter_cases}
 use Rattle.cep_graph.proofs.Tracing.{made_trace}
@@ -34,10 +34,8 @@ filter_there p (y ∷ xs) x there is = by (p y) refl (λ later. filter_there p x
     by false e rest there = ⊎_elim (λ (same : y ≡ x). absurd (false≢true (sym e ∙ ap p same ∙ is))) (λ later. rest later) (contains_cases y xs x there)
 
 zip_length : {A B : Type 0} (R : A → B → Type 0) (xs : List A) (ys : List B) → AllZip R xs ys → length xs ≡ length ys
-zip_length R [] [] all = refl
-zip_length R [] (y ∷ ys) all = absurd all
-zip_length R (x ∷ xs) [] all = absurd all
 zip_length R (x ∷ xs) (y ∷ ys) all = let rest = zip_length R xs ys all.1 in omega arith
+zip_length R xs ys all = grind arith
 
 some_first : {X : Type 0} (xs : List X) → 0 < length xs → (x : X) × Contains xs x
 some_first [] some = absurd (omega arith)

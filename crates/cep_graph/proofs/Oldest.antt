@@ -1,7 +1,7 @@
 -- The oldest token of an atom stands first among those of the atom.
-use Rattle.std.proofs.Common.{◌≡◌, ◌⊎◌, inl, inr, ⊎_elim, ℕ, zero, suc, ◌+◌, ◌<◌, ◌≤◌, Bool, true, false, cond, not, ◌||◌, List, [], ◌∷◌, ◌++◌, refl, sym, ap, ◌∙◌, subst, arith, Contains}
+use Rattle.std.proofs.Common.{◌≡◌, ◌⊎◌, ⊎_elim, ℕ, ◌+◌, ◌<◌, ◌≤◌, Bool, true, false, cond, not, ◌||◌, List, [], ◌∷◌, ◌++◌, refl, sym, ap, ◌∙◌, subst, arith, Contains}
 use Rattle.std.specs.Prelude.{◌==◌}
-use Rattle.std.specs.List.{AllByRecursion, filter}
+use Rattle.std.specs.List.{filter}
 use Rattle.std.specs.Ordering.{eq_by_cmp}
 use Rattle.std.proofs.lemmas.Bool.{false≢true}
 use Rattle.std.proofs.lemmas.Bool.Decides.{nat_tests}
@@ -11,7 +11,8 @@ use Rattle.cep_term.specs.Order.{atom_cmp}
 use Rattle.cep_term.specs.BagLaws.{BagLaws}
 use Rattle.cep_cause.specs.Tokens.{Token, has_number, staying}
 use Rattle.cep_graph.specs.Traces.{tokens_of, NumbersIncrease}
-use Rattle.cep_graph.proofs.Rows.{itself, same_atom}
+use Rattle.cep_graph.proofs.Rows.{same_atom}
+pub use Rattle.cep_cause.proofs.Passing.{numbered_there}
 
 module _ {X : Type 0} where
   -- a part of a list by a test
@@ -47,19 +48,6 @@ has_append (x ∷ xs) ys n = by (x.number == n) (has_append xs ys n)
     by true rest = refl
     by false rest = rest
 
--- a token that is among others has its number there
-pub numbered_there : (tokens : List Token) (token : Token) → Contains tokens token → has_number tokens token.number ≡ true
-numbered_there [] token there = absurd (contains_none token there)
-numbered_there (first ∷ tokens) token there =
-    ⊎_elim
-    (λ (same : first ≡ token). ap (λ (t : Bool). t || has_number tokens token.number) (number_itself first.number token.number (ap (λ (t : Token). t.number) same)))
-    (λ later. by (first.number == token.number) (numbered_there tokens token later))
-    (contains_cases first tokens token there)
-  where
-    by : (t : Bool) → has_number tokens token.number ≡ true → (t || has_number tokens token.number) ≡ true
-    by true rest = refl
-    by false rest = rest
-
 -- a number that is there is that of a token
 pub number_of : (tokens : List Token) (n : ℕ) → has_number tokens n ≡ true → (token : Token) × Contains tokens token × (token.number ≡ n)
 number_of [] n is = absurd (false≢true is)
@@ -92,18 +80,11 @@ pub record IsOldest (present out : List Token) (token : Token) : Type 0 where
 
 module _ (laws : BagLaws) where
   kept_first : (b : AtomTree) (t : Bool) (first : Token) (tokens : List Token) → tokens_of b (cond t (first ∷ tokens) tokens) ≡ cond t (cond (eq_by_cmp atom_cmp first.atom b) (first ∷ tokens_of b tokens) (tokens_of b tokens)) (tokens_of b tokens)
-  kept_first b true first tokens = refl
-  kept_first b false first tokens = refl
+  kept_first b t first tokens = grind arith
 
   behind_first : (n h s t : Bool) (first token : Token) (old new : List Token) → n ≡ false → (h ≡ false → s ≡ true → t ≡ true → ⊥) → old ≡ cond t (token ∷ new) new
       → cond (not h) (cond s (first ∷ old) old) old ≡ cond t (token ∷ cond (not (n || h)) (cond s (first ∷ new) new) new) (cond (not (n || h)) (cond s (first ∷ new) new) new)
-  behind_first true h s t first token old new apart both rest = absurd (false≢true (sym apart))
-  behind_first false true s true first token old new apart both rest = rest
-  behind_first false true s false first token old new apart both rest = rest
-  behind_first false false true true first token old new apart both rest = absurd (both refl refl refl)
-  behind_first false false true false first token old new apart both rest = ap (λ (tokens : List Token). first ∷ tokens) rest
-  behind_first false false false true first token old new apart both rest = rest
-  behind_first false false false false first token old new apart both rest = rest
+  behind_first n h s t first token old new apart both rest = grind arith
 
   -- If the oldest token is out too, it is gone from its queue, where it was the first; other queues stay.
   pub oldest_first : (present out : List Token) (token : Token) (b : AtomTree) → NumbersIncrease present → IsOldest present out token

@@ -44,33 +44,25 @@ module _ (touches : List Touch) (place : ℕ) (touch : Touch) where
   -- the numbers in one entry of a step stand in each
   also : (one other : StepCause) → IsCause touches place touch one → IsCause touches place touch other → (number : ℕ) → Contains one.after number → Contains other.after number
   also one other is is' number there =
-      let some = all_at (λ n. 0 < n) one.after number is.counted there in
-      let same : number - 1 + 1 ≡ number = omega (arith, some) in
+      let same : number - 1 + 1 ≡ number = omega (arith, (all_at (λ n. 0 < n) one.after number is.counted there)) in
       subst (Contains other.after) same ((is'.after (number - 1)).1 ((is.after (number - 1)).0 (subst (Contains one.after) (sym same) there)))
 
   -- a step has one entry
   one_entry : (one other : StepCause) → IsCause touches place touch one → IsCause touches place touch other → one ≡ other
-  one_entry one other is is' =
-      let barriers : one.barrier ≡ other.barrier = is.barrier ∙ sym is'.barrier in
-      let numbers = same_increasing one.after other.after is.increasing is'.increasing (λ n. (also one other is is' n, also other one is' is n)) in
-      λ i. record { barrier = barriers i; after = numbers i }
+  one_entry one other is is' = grind (arith, is.barrier ∙ sym is'.barrier, same_increasing one.after other.after is.increasing is'.increasing (λ n. (also one other is is' n, also other one is' is n)))
 
 -- lists of one length with the same items are the same
 same_items : {X : Type 0} (xs ys : List X) → length xs ≡ length ys → ((place : ℕ) (x y : X) → slice_get xs place ≡ Some x → slice_get ys place ≡ Some y → x ≡ y) → xs ≡ ys
 same_items [] [] long same = refl
-same_items [] (y ∷ ys) long same = absurd (omega (arith, long))
-same_items (x ∷ xs) [] long same = absurd (omega (arith, long))
-same_items (x ∷ xs) (y ∷ ys) long same =
-    let rest = same_items xs ys (omega (arith, long)) (λ place. same (suc place)) in
-    ap (λ z. z ∷ xs) (same 0 x y refl refl) ∙ ap (λ (zs : List _). y ∷ zs) rest
+same_items (x ∷ xs) (y ∷ ys) long same = let rest = same_items xs ys (omega (arith, long)) (λ place. same (suc place)) in rw (same 0 x y refl refl, rest)
+same_items xs ys long same = grind arith
 
 -- steps have one list of entries
 one_list : (touches : List Touch) (one other : List StepCause) → AreCauses touches one → AreCauses touches other → one ≡ other
 one_list touches one other are are' = same_items one other (are.many ∙ sym are'.many) (λ place x y here there.
-    let within = slice_get_within one place x here in
     ⊎_elim
     (λ some. one_entry touches place some.0 x y (are.each place some.0 x some.2 here) (are'.each place some.0 y some.2 there))
-    (λ none. let past = none.0 in absurd (omega (arith, past, within, are.many)))
+    (λ none. let past = none.0 in absurd (omega (arith, past, (slice_get_within one place x here), are.many)))
     (slice_get_cases touches place).1)
 
 -- Touches are one.
@@ -78,5 +70,4 @@ abbrev pub AreOneTouches : Type 0
 AreOneTouches = (program : Parts) (log : Log) (one other : List Touch) → AreTouchesOf program log one → AreTouchesOf program log other → one ≡ other
 
 pub one_graph : AreOneTouches → (program : Parts) (log : Log) (one other : List StepCause) → IsGraph program log one → IsGraph program log other → one ≡ other
-one_graph alone program log one other is is' =
-    one_list is.touches one other is.entries (subst (λ (touches : List Touch). AreCauses touches other) (alone program log is'.touches is.touches is'.are is.are) is'.entries)
+one_graph alone program log one other is is' = rw (one_list is.touches one other is.entries (subst (λ (touches : List Touch). AreCauses touches other) (alone program log is'.touches is.touches is'.are is.are) is'.entries))

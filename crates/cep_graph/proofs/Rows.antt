@@ -32,28 +32,16 @@ module _ (laws : BagLaws) where
 
   -- the row at an atom's id
   get_row : (atoms : List AtomTree) (rows : List (List Trace)) (id : ℕ) (a : AtomTree) (row : List Trace) → AreApart atoms → slice_get atoms id ≡ Some a → slice_get rows id ≡ Some row → row_of atoms rows a ≡ row
-  get_row [] rows id a row apart at at' = none_some a at
-  get_row (first ∷ atoms) [] id a row apart at at' = none_some row at'
-  get_row (first ∷ atoms) (one ∷ rows) zero a row apart at at' =
-      ap (λ (t : Bool). cond t one (row_of atoms rows a)) (subst (λ (b : AtomTree). eq_by_cmp atom_cmp first b ≡ true) (some_same first a at) (itself first)) ∙ some_same one row at'
   get_row (first ∷ atoms) (one ∷ rows) (suc id) a row apart at at' = by (eq_by_cmp atom_cmp first a) refl (get_row atoms rows id a row (apart_tail first atoms apart) at at')
     where
       by : (t : Bool) → eq_by_cmp atom_cmp first a ≡ t → row_of atoms rows a ≡ row → cond t one (row_of atoms rows a) ≡ row
       by true e rest = let same = apart zero (suc id) a (ap Some (same_atom first a e)) at in absurd (omega arith)
       by false e rest = rest
+  get_row atoms rows id a row apart at at' = grind (arith, none_some, some_same, itself)
 
   -- a row is set
   set_row : (atoms : List AtomTree) (rows : List (List Trace)) (id : ℕ) (a b : AtomTree) (row : List Trace) → length rows ≡ length atoms → AreApart atoms → slice_get atoms id ≡ Some a
       → row_of atoms (set rows id row) b ≡ cond (eq_by_cmp atom_cmp a b) row (row_of atoms rows b)
-  set_row [] rows id a b row long apart at = none_some a at
-  set_row (first ∷ atoms) [] id a b row long apart at = absurd (omega arith)
-  set_row (first ∷ atoms) (one ∷ rows) zero a b row long apart at = by (eq_by_cmp atom_cmp first b) (eq_by_cmp atom_cmp a b) (ap (λ (c : AtomTree). eq_by_cmp atom_cmp c b) (some_same first a at))
-    where
-      by : (s t : Bool) → s ≡ t → cond s row (row_of atoms rows b) ≡ cond t row (cond s one (row_of atoms rows b))
-      by true true e = refl
-      by true false e = absurd (false≢true (sym e))
-      by false true e = absurd (false≢true e)
-      by false false e = refl
   set_row (first ∷ atoms) (one ∷ rows) (suc id) a b row long apart at =
       by (eq_by_cmp atom_cmp first b) (eq_by_cmp atom_cmp a b) refl refl (set_row atoms rows id a b row (omega arith) (apart_tail first atoms apart) at)
     where
@@ -63,6 +51,7 @@ module _ (laws : BagLaws) where
       by true false e e' rest = refl
       by false true e e' rest = rest
       by false false e e' rest = rest
+  set_row atoms rows id a b row long apart at = grind (arith, none_some, some_same)
 
   module _ {X : Type 0} (f : X → List Trace) (atoms : List AtomTree) (deques : List X) (id : ℕ) (a : AtomTree) (old new : X) where
     in_rows : AreQueues (record { atoms = atoms; rows = map f deques }) → slice_get atoms id ≡ Some a → old ≡ get_or deques id old → row_of atoms (map f deques) a ≡ f old
@@ -80,13 +69,11 @@ module _ (laws : BagLaws) where
 
     made_row : (b : AtomTree) (t : Bool) → eq_by_cmp atom_cmp a b ≡ t → (change : List Trace → List Trace) → row_of atoms (map f deques) a ≡ f old → f new ≡ change (f old)
         → cond t (f new) (row_of atoms (map f deques) b) ≡ cond t (change (row_of atoms (map f deques) b)) (row_of atoms (map f deques) b)
-    made_row b true e change got makes = makes ∙ ap change (sym got ∙ ap (row_of atoms (map f deques)) (same_atom a b e))
-    made_row b false e change got makes = refl
+    made_row b t e change got makes = grind (arith, same_atom)
 
     left_row : (b : AtomTree) (t : Bool) → eq_by_cmp atom_cmp a b ≡ t → (change : List Trace → List Trace) (now : List Trace) → now ≡ cond t (f new) (row_of atoms (map f deques) b) → row_of atoms (map f deques) a ≡ f old → f old ≡ change (f new)
         → row_of atoms (map f deques) b ≡ cond t (change now) now
-    left_row b true e change now is got makes = sym (ap (row_of atoms (map f deques)) (same_atom a b e)) ∙ got ∙ makes ∙ ap change (sym is)
-    left_row b false e change now is got makes = sym is
+    left_row b t e change now is got makes = grind (arith, same_atom)
 
     -- one queue is changed
     pub changed : (now : Queues) (change : List Trace → List Trace) → record { atoms = atoms; rows = map f deques } ≡ now → AreQueues (record { atoms = atoms; rows = map f deques })
@@ -118,9 +105,8 @@ module _ (laws : BagLaws) where
       by : (t : Bool) → ◌≡◌ {A = List Trace} (cond t [] []) []
       by true = refl
       by false = refl
-  more_rows [] (row ∷ rows) a b long = absurd (omega arith)
-  more_rows (first ∷ atoms) [] a b long = absurd (omega arith)
   more_rows (first ∷ atoms) (row ∷ rows) a b long = ap (cond (eq_by_cmp atom_cmp first b) row) (more_rows atoms rows a b (omega arith))
+  more_rows atoms rows a b long = grind arith
 
   module _ {X : Type 0} (f : X → List Trace) (old new : List AtomTree) (deques : List X) (id : ℕ) (a : AtomTree) where
     -- An atom was met before.

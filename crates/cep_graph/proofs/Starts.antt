@@ -1,5 +1,5 @@
 -- The tokens of the start.
-use Rattle.std.proofs.Common.{◌≡◌, ◌↔◌, ℕ, zero, suc, ◌+◌, Bool, List, [], ◌∷◌, ◌++◌, length, take, replicate, Some, add-one, refl, sym, ap, ◌∙◌, subst, arith, append_assoc, append-nil, Contains}
+use Rattle.std.proofs.Common.{◌≡◌, ℕ, ◌+◌, List, [], ◌∷◌, ◌++◌, take, replicate, Some, refl, sym, ap, ◌∙◌, subst, arith, append_assoc, append-nil, Contains}
 use Rattle.std.specs.Prelude.{slice_get}
 use Rattle.std.specs.List.{AllZip, flat_map}
 use Rattle.std.proofs.lemmas.List.Concat.{flat_map-append}
@@ -13,9 +13,6 @@ use Rattle.cep_graph.specs.declared.trace.Trace.{Trace}
 use Rattle.cep_graph.specs.Queues.{Queues, queue_of, Changes, GetsId}
 use Rattle.cep_graph.specs.Traces.{tokens_of, IsTrace, AreOfStart}
 use Rattle.cep_graph.proofs.Made.{traced_push}
-
-pub starts_empty : (queues : Queues) → ((a : AtomTree) → queue_of queues a ≡ []) → AreOfStart [] queues
-starts_empty queues none signature a = subst (λ (row : List Trace). AllZip (IsTrace signature []) [] row) (sym (none a)) tt
 
 pub starts_met : (atoms : List AtomTree) (old new : Queues) (a : AtomTree) (id : ℕ) → GetsId old a id new → AreOfStart atoms old → AreOfStart atoms new
 starts_met atoms old new a id meets starts signature b = subst (λ (row : List Trace). AllZip (IsTrace signature []) (tokens_of b (numbered 0 atoms)) row) (sym (meets.queues b)) (starts signature b)
@@ -47,7 +44,4 @@ copies_more atoms n old new a trace maker users changes starts =
 -- the copies of one entry more
 pub entry_more : (entries : List (AtomTree × ℕ)) (i : ℕ) (a : AtomTree) (n : ℕ) → slice_get entries i ≡ Some (a, n)
     → flat_map (λ (e : AtomTree × ℕ). replicate e.1 e.0) (take (i + 1) entries) ≡ flat_map (λ (e : AtomTree × ℕ). replicate e.1 e.0) (take i entries) ++ replicate n a
-entry_more entries i a n at =
-    ap (flat_map (λ (e : AtomTree × ℕ). replicate e.1 e.0)) (take_next entries i (a, n) at)
-    ∙ flat_map-append (λ (e : AtomTree × ℕ). replicate e.1 e.0) (take i entries) ((a, n) ∷ [])
-    ∙ ap (λ (atoms : List AtomTree). flat_map (λ (e : AtomTree × ℕ). replicate e.1 e.0) (take i entries) ++ atoms) (append-nil (replicate n a))
+entry_more entries i a n at = rw (take_next entries i (a, n) at, flat_map-append (λ (e : AtomTree × ℕ). replicate e.1 e.0) (take i entries) ((a, n) ∷ []), append-nil (replicate n a))

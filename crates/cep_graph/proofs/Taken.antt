@@ -1,11 +1,9 @@
 -- Tokens are taken for one premise after another, and those that stay are put back.
-use Rattle.std.proofs.Common.{◌≡◌, ◌↔◌, ◌⊎◌, inl, inr, ⊎_elim, ℕ, zero, suc, ◌+◌, ◌<◌, ◌≤◌, Bool, true, false, cond, not, ◌||◌, Option, None, List, [], ◌∷◌, ◌++◌, length, drop, add-one, Some, refl, sym, ap, ◌∙◌, subst, arith, Contains}
-use Rattle.std.specs.Prelude.{◌==◌, slice_get}
-use Rattle.std.specs.List.{AllZip, filter}
-use Rattle.std.specs.Option.{option_to_list}
+use Rattle.std.proofs.Common.{◌≡◌, ◌↔◌, ◌⊎◌, inl, inr, ⊎_elim, ℕ, ◌+◌, Bool, true, false, cond, not, ◌||◌, List, [], ◌∷◌, ◌++◌, length, refl, sym, ap, ◌∙◌, subst, Contains, arith}
+use Rattle.std.specs.Prelude.{◌==◌}
+use Rattle.std.specs.List.{AllZip}
 use Rattle.std.specs.Ordering.{eq_by_cmp}
 use Rattle.std.proofs.lemmas.Bool.{false≢true}
-use Rattle.cep_base.proofs.Lists.{none_some, some_same}
 use Rattle.cep_base.proofs.Elements.{contains_none, contains_first, contains_behind, contains_cases, contains_same, contains_left, contains_right, contains_either}
 use Rattle.cep_term.specs.Tree.{Tree, AtomTree}
 use Rattle.cep_term.specs.Order.{atom_cmp}
@@ -16,31 +14,19 @@ use Rattle.cep_rule.specs.Typing.{is_fact}
 use Rattle.cep_rule.specs.Instances.{full_instance}
 use Rattle.cep_cause.specs.Tokens.{Token, has_number, staying, ArePicks, picked_to_go}
 use Rattle.cep_cause.specs.Touches.{Touch}
-use Rattle.cep_cause.specs.Graphs.{RestsOnAt}
 use Rattle.cep_graph.specs.declared.trace.Trace.{Trace}
 use Rattle.cep_graph.specs.Queues.{Queues, queue_of, Changes, GetsId}
-use Rattle.cep_graph.specs.Traces.{tokens_of, NumbersIncrease, MakesAt, UsesAt, IsTrace, AreTraced, IsTaking, using, AddsNumbers, HasTaken, TakesFor}
-use Rattle.cep_graph.proofs.Rows.{itself, same_atom}
-use Rattle.cep_graph.proofs.Oldest.{filter_cases, number_itself, same_if, staying_alike, has_append, numbered_there, number_of, one_token, IsOldest, oldest_first}
+use Rattle.cep_graph.specs.Traces.{tokens_of, IsTrace, AreTraced, IsTaking, AddsNumbers, HasTaken, TakesFor}
+use Rattle.cep_graph.proofs.Rows.{itself}
+use Rattle.cep_graph.proofs.Oldest.{filter_cases, number_itself, same_if, staying_alike, has_append, number_of, one_token, IsOldest, oldest_first}
 use Rattle.cep_graph.proofs.Tracing.{zip_more, passed_trace, used_trace, rests_none, rests_used, rests_removed}
-
--- a token that is used is present
-pub picks_present : (signature : Signature) (values : List Tree) (present used : List Token) (premises : List PremiseTree) (tokens : List Token) (token : Token) → ArePicks signature values present used premises tokens → Contains tokens token → Contains present token
-picks_present signature values present used [] [] token picks there = absurd (contains_none token there)
-picks_present signature values present used [] (first ∷ tokens) token picks there = absurd picks
-picks_present signature values present used (premise ∷ premises) [] token picks there = absurd picks
-picks_present signature values present used (premise ∷ premises) (first ∷ tokens) token picks there =
-    ⊎_elim
-    (λ same. subst (λ (t : Token). Contains present t) same picks.0.can.there)
-    (λ later. picks_present signature values present (first ∷ used) premises tokens token picks.1 later)
-    (contains_cases first tokens token there)
+pub use Rattle.cep_base.proofs.Drops.{drop_at as drop_next}
+pub use Rattle.cep_cause.proofs.Passing.{picks_present}
+use Rattle.cep_cause.proofs.Passing.{removed_used}
 
 -- a linear token that is picked was not used
 picks_apart : (signature : Signature) (values : List Tree) (present used : List Token) (premises : List PremiseTree) (tokens : List Token) (token : Token) → ArePicks signature values present used premises tokens
     → Contains tokens token → is_fact signature token.atom ≡ false → Contains used token → ⊥
-picks_apart signature values present used [] [] token picks there linear was = contains_none token there
-picks_apart signature values present used [] (first ∷ tokens) token picks there linear was = absurd picks
-picks_apart signature values present used (premise ∷ premises) [] token picks there linear was = absurd picks
 picks_apart signature values present used (premise ∷ premises) (first ∷ tokens) token picks there linear was =
     ⊎_elim
     (λ (same : first ≡ token).
@@ -48,18 +34,7 @@ picks_apart signature values present used (premise ∷ premises) (first ∷ toke
     picks.0.can.unused (ap (is_fact signature) (sym picks.0.can.of_atom) ∙ is) (subst (λ (t : Token). Contains used t) (sym same) was))
     (λ later. picks_apart signature values present (first ∷ used) premises tokens token picks.1 later linear (contains_behind first used token was))
     (contains_cases first tokens token there)
-
--- a token that is removed is used
-removed_used : (signature : Signature) (premises : List PremiseTree) (tokens : List Token) (token : Token) → Contains (picked_to_go signature premises tokens) token → Contains tokens token
-removed_used signature [] tokens token there = absurd (contains_none token there)
-removed_used signature (premise ∷ premises) [] token there = absurd (contains_none token there)
-removed_used signature (premise ∷ premises) (first ∷ tokens) token there = by (premise.kept || is_fact signature premise.atom) (removed_used signature premises tokens token) there
-  where
-    by : (t : Bool) → (Contains (picked_to_go signature premises tokens) token → Contains tokens token) → Contains (cond t (picked_to_go signature premises tokens) (first ∷ picked_to_go signature premises tokens)) token → Contains (first ∷ tokens) token
-    by true rest there = contains_behind first tokens token (rest there)
-    by false rest there =
-        ⊎_elim (λ same. contains_same first tokens token same) (λ later. contains_behind first tokens token (rest later))
-        (contains_cases first (picked_to_go signature premises tokens) token there)
+picks_apart signature values present used premises tokens token picks there linear was = grind arith
 
 -- one token goes over from those to be used to those that are used
 one_over : (token : Token) (used uses : List Token) (x : Token) → ((Contains used x ⊎ Contains (token ∷ uses) x) ↔ (Contains (token ∷ used) x ⊎ Contains uses x))
@@ -70,8 +45,7 @@ one_over token used uses x = (
 
 -- the first of a queue
 front_is : (R : Token → Trace → Type 0) (token : Token) (tokens : List Token) (row : List Trace) → AllZip R (token ∷ tokens) row → (trace : Trace) × (traces : List Trace) × (row ≡ trace ∷ traces) × R token trace
-front_is R token tokens [] all = absurd all
-front_is R token tokens (trace ∷ traces) all = (trace, traces, refl, all.0)
+front_is R token tokens row all = grind arith
 
 module _ (laws : BagLaws) (signature : Signature) (values : List Tree) where
   pub none_taken : (number : ℕ) (queues : Queues) (numbers : List ℕ) → TakesFor signature values [] number queues queues numbers numbers
@@ -226,8 +200,7 @@ module _ (laws : BagLaws) (signature : Signature) (values : List Tree) where
     }
 
     or_true : (s t : Bool) → t ≡ true → (s || t) ≡ true
-    or_true true t e = refl
-    or_true false t e = e
+    or_true s t e = grind arith
 
     -- a fact is picked
     fact_taken : is_fact signature premise.atom ≡ true → (number : ℕ) (old mid new : Queues) (maker : ℕ) (numbers numbers' : List ℕ) → number ≡ length done + 1
@@ -243,16 +216,10 @@ module _ (laws : BagLaws) (signature : Signature) (values : List Tree) where
         (maker_adds front.0 maker numbers numbers' front.3 (maker_is front.0 front.1 (ap (queue_of mid) (sym is.picks.0.can.of_atom) ∙ front.2)) (picked_to_go signature premises uses) taken.adds)
 
     cut : (R : Token → Trace → Type 0) (s t : Bool) (tokens : List Token) (trace : Trace) (traces : List Trace) → s ≡ t → AllZip R (cond s (token ∷ tokens) tokens) (cond t (trace ∷ traces) traces) → AllZip R tokens traces
-    cut R true true tokens trace traces e all = all.1
-    cut R true false tokens trace traces e all = absurd (false≢true (sym e))
-    cut R false true tokens trace traces e all = absurd (false≢true e)
-    cut R false false tokens trace traces e all = all
+    cut R s t tokens trace traces e all = grind arith
 
     paste : (R : Token → Trace → Type 0) (s t : Bool) (tokens : List Token) (trace : Trace) (traces : List Trace) → s ≡ t → R token trace → AllZip R tokens traces → AllZip R (cond s (token ∷ tokens) tokens) (cond t (trace ∷ traces) traces)
-    paste R true true tokens trace traces e one all = (one, all)
-    paste R true false tokens trace traces e one all = absurd (false≢true (sym e))
-    paste R false true tokens trace traces e one all = absurd (false≢true e)
-    paste R false false tokens trace traces e one all = all
+    paste R s t tokens trace traces e one all = grind arith
 
     same_test : (b : AtomTree) → eq_by_cmp atom_cmp token.atom b ≡ eq_by_cmp atom_cmp (full_instance values premise.atom) b
     same_test b = ap (λ (a : AtomTree). eq_by_cmp atom_cmp a b) is.picks.0.can.of_atom
@@ -277,15 +244,10 @@ module _ (laws : BagLaws) (signature : Signature) (values : List Tree) where
 
     -- the queue is not empty
     not_empty : is_fact signature premise.atom ≡ false → (old : Queues) → AreTraced signature done (staying out present) old → queue_of old (full_instance values premise.atom) ≡ [] → ⊥
-    not_empty linear old traced none =
-        let front = first_front old out (linear_oldest linear) traced in
-        let e : front.0 ∷ front.1 ≡ [] = sym front.2 ∙ ap (queue_of old) is.picks.0.can.of_atom ∙ none in
-        cc
+    not_empty linear old traced none = grind (arith, first_front old out (linear_oldest linear) traced, sym (first_front old out (linear_oldest linear) traced).2 ∙ ap (queue_of old) is.picks.0.can.of_atom ∙ none)
 
     swap_or : (s t u : Bool) → (s || (t || u)) ≡ (t || (s || u))
-    swap_or true true u = refl
-    swap_or true false u = refl
-    swap_or false t u = refl
+    swap_or s t u = grind arith
 
     -- it makes no difference where among those that are out a token stands
     swapped : (gone : List Token) → staying (gone ++ (token ∷ out)) present ≡ staying ((token ∷ gone) ++ out) present
@@ -392,15 +354,6 @@ module _ (laws : BagLaws) (signature : Signature) (values : List Tree) where
   kept_takes premise premises number old met mid late new id trace trace' numbers numbers' linear kept meets changes maker users rest back done present used out (token ∷ uses) touch last is traced =
       kept_taken premise premises done present used out token uses touch is linear kept number met mid late new trace trace' numbers numbers' last
       (same_traces premise premises done present used out token uses touch is old met (staying out present) meets.queues traced) changes maker users rest back
-
--- the premises from a place on
-drop_suc : {X : Type 0} (xs : List X) (i : ℕ) (x : X) → slice_get xs i ≡ Some x → drop i xs ≡ x ∷ drop (suc i) xs
-drop_suc [] i x at = none_some x at
-drop_suc (first ∷ xs) zero x at = ap (λ y. y ∷ xs) (some_same first x at)
-drop_suc (first ∷ xs) (suc i) x at = drop_suc xs i x at
-
-pub drop_next : {X : Type 0} (xs : List X) (i : ℕ) (x : X) → slice_get xs i ≡ Some x → drop i xs ≡ x ∷ drop (i + 1) xs
-drop_next xs i x at = drop_suc xs i x at ∙ ap (λ n. x ∷ drop n xs) (sym (add-one i))
 
 -- one list after another
 pub joined : (old more new : List ℕ) → new ≡ old ++ more → (n : ℕ) → (Contains new n ↔ (Contains old n ⊎ Contains more n))

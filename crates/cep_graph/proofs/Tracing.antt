@@ -1,5 +1,5 @@
 -- What one step more does to traces, and what makers and users tell of steps.
-use Rattle.std.proofs.Common.{◌≡◌, ◌↔◌, ◌⊎◌, inl, inr, ⊎_elim, ℕ, zero, suc, ◌+◌, ◌<◌, Bool, true, false, not, List, [], ◌∷◌, ◌++◌, length, Some, refl, sym, ap, ◌∙◌, subst, arith, Contains}
+use Rattle.std.proofs.Common.{◌≡◌, ◌↔◌, ◌⊎◌, inl, inr, ⊎_elim, ℕ, suc, ◌+◌, false, List, [], ◌∷◌, ◌++◌, length, Some, sym, ap, ◌∙◌, subst, arith, Contains}
 use Rattle.std.specs.Prelude.{slice_get}
 use Rattle.std.specs.List.{AllZip}
 use Rattle.cep_base.proofs.Lists.{none_some, some_same, get_kept, get_last}
@@ -14,18 +14,14 @@ use Rattle.cep_graph.specs.Traces.{MakesAt, UsesAt, IsTrace, using}
 
 -- what holds of pairs
 pub zip_more : {A B : Type 0} (R R' : A → B → Type 0) (xs : List A) (ys : List B) → ((x : A) (y : B) → Contains xs x → R x y → R' x y) → AllZip R xs ys → AllZip R' xs ys
-zip_more R R' [] [] each all = tt
-zip_more R R' [] (y ∷ ys) each all = absurd all
-zip_more R R' (x ∷ xs) [] each all = absurd all
 zip_more R R' (x ∷ xs) (y ∷ ys) each all = (each x y (contains_first x xs) all.0, zip_more R R' xs ys (λ z w there. each z w (contains_behind x xs z there)) all.1)
+zip_more R R' xs ys each all = grind arith
 
 -- the step at a place of one step more
 step_at : (done : List Touch) (touch x : Touch) (place : ℕ) → slice_get (done ++ touch ∷ []) place ≡ Some x → (slice_get done place ≡ Some x) ⊎ ((place ≡ length done) × (touch ≡ x))
-step_at [] touch x zero at = inr (refl, some_same touch x at)
-step_at [] touch x (suc place) at = none_some x at
-step_at (first ∷ done) touch x zero at = inl at
 step_at (first ∷ done) touch x (suc place) at =
     ⊎_elim (λ earlier. inl earlier) (λ last. inr (ap suc last.0, last.1)) (step_at done touch x place at)
+step_at done touch x place at = grind (arith, some_same, none_some)
 
 module _ (part : Touch → List Token) (done : List Touch) (touch : Touch) (token : Token) where
   -- the step at a place has the token in its part

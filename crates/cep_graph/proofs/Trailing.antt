@@ -1,35 +1,25 @@
 -- One step more.
-use Rattle.std.proofs.Common.{◌≡◌, ◌↔◌, ◌⊎◌, inl, inr, ⊎_elim, ℕ, zero, suc, ◌+◌, ◌<◌, ◌≤◌, Bool, true, false, cond, not, List, [], ◌∷◌, ◌++◌, length, refl, sym, ap, ◌∙◌, subst, arith, append-nil, Contains}
+use Rattle.std.proofs.Common.{◌≡◌, ◌↔◌, ◌⊎◌, inl, inr, ⊎_elim, ℕ, ◌+◌, ◌<◌, ◌≤◌, Bool, true, false, cond, not, List, [], ◌∷◌, ◌++◌, length, refl, sym, ap, ◌∙◌, subst, arith, append-nil, Contains}
 use Rattle.std.specs.Prelude.{Result, Ok, Err, IfOk}
 use Rattle.std.specs.List.{AllByRecursion, filter}
 use Rattle.std.specs.List.Sorted.{IsStrictlyIncreasing}
 use Rattle.std.proofs.lemmas.Bool.{false≢true}
-use Rattle.cep_base.proofs.Elements.{contains_none, contains_first, contains_behind, contains_cases, contains_same, contains_either, all_at, all_of, both_all}
+use Rattle.cep_base.proofs.Elements.{contains_none, contains_first, contains_behind, contains_either, all_at, all_of, both_all}
 use Rattle.cep_term.specs.Tree.{Tree, AtomTree}
 use Rattle.cep_term.specs.Multiset.{gained}
-use Rattle.cep_term.specs.BagLaws.{BagLaws}
 use Rattle.cep_rule.specs.declared.signature.Signature.{Signature}
 use Rattle.cep_rule.specs.declared.rule.Rule.{Rule}
 use Rattle.cep_rule.specs.Typing.{is_fact}
 use Rattle.cep_rule.specs.Instances.{full_instances}
 use Rattle.cep_cause.specs.Tokens.{Token, numbered, token_state, has_number, staying, picked_to_go}
 use Rattle.cep_cause.specs.Touches.{Touch, present_after}
-use Rattle.cep_cause.specs.Graphs.{RestsOnAt}
 use Rattle.cep_graph.specs.Queues.{Queues}
-use Rattle.cep_graph.specs.Traces.{NumbersIncrease, MakesAt, UsesAt, AreTraced, IsTaking, using, AddsNumbers, HasTaken, TakesFor, AreFresh, made_for, MakesFor}
+use Rattle.cep_graph.specs.Traces.{NumbersIncrease, AreTraced, IsTaking, TakesFor, AreFresh, MakesFor}
 use Rattle.cep_graph.specs.Trails.{IsTrail, IsTouchBy, HasTouched, TouchesBy}
 use Rattle.cep_graph.proofs.Oldest.{filter_cases}
 use Rattle.cep_graph.proofs.Tracing.{has_more}
 use Rattle.cep_graph.proofs.Taken.{picks_present}
-
--- numbers of tokens that are made
-made_later : (next : ℕ) (atoms : List AtomTree) (token : Token) → Contains (numbered next atoms) token → (next ≤ token.number) × (token.number < next + length (numbered next atoms))
-made_later next [] token there = absurd (contains_none token there)
-made_later next (a ∷ atoms) token there =
-    ⊎_elim
-    (λ (same : record { number = next; atom = a } ≡ token). let is : next ≡ token.number = ap (λ (t : Token). t.number) same in ((omega arith), (omega arith)))
-    (λ later. let is = made_later (next + 1) atoms token later in ((omega (arith, is.0)), (omega (arith, is.1))))
-    (contains_cases (record { number = next; atom = a }) (numbered (next + 1) atoms) token there)
+use Rattle.cep_cause.proofs.Passing.{made_later}
 
 all_stay : (present : List Token) → staying [] present ≡ present
 all_stay [] = refl
@@ -61,9 +51,7 @@ numbered_below atoms token there = let few = (made_later 0 atoms token there).1 
 module _ (signature : Signature) (values : List Tree) (rule : Rule) (done : List Touch) (present : List Token) (next : ℕ) (touch : Touch) (old : Queues)
     (trail : IsTrail signature done present next old) (is : IsTouchBy signature values rule next present touch) where
   made_new : (token : Token) → Contains touch.makes token → (next ≤ token.number) × (token.number < next + length touch.makes)
-  made_new token there =
-      let few = made_later next (gained (is_fact signature) (token_state (staying touch.removes present)) (full_instances values rule.right)) token (subst (λ (ts : List Token). Contains ts token) is.makes there) in
-      (few.0, subst (λ (ts : List Token). token.number < next + length ts) (sym is.makes) few.1)
+  made_new token there = grind (arith, made_later next (gained (is_fact signature) (token_state (staying touch.removes present)) (full_instances values rule.right)) token (subst (λ (ts : List Token). Contains ts token) is.makes there))
 
   used_old : (token : Token) → Contains touch.uses token → token.number < next
   used_old token there = trail.below token (picks_present signature values present [] rule.premises touch.uses token is.uses there)
