@@ -47,22 +47,22 @@ when : (b : Bool) (w fault : Fault) → b ≡ true → fault ≡ w → In (let f
 when b w fault e is = grind (arith, is_one)
 
 refuted : {P : Type 0} (b v : Bool) → (b ≡ true → P) → ¬ P → b ≡ v → b ≡ false
-refuted b v h n e = grind (arith, h, e)
+refuted b v h n e = grind arith
 
 both_parts : (a b : Bool) → (a && b) ≡ true → (a ≡ true) × (b ≡ true)
-both_parts a b e = grind (arith, e)
+both_parts a b e = grind arith
 
 or_left : (a b : Bool) → a ≡ true → (a || b) ≡ true
 or_left a b e = grind arith
 
 or_right : (a b : Bool) → b ≡ true → (a || b) ≡ true
-or_right a b e = grind (arith, e)
+or_right a b e = grind arith
 
 unequal : (a b : ℕ) → a ≢ b → (a == b) ≡ false
 unequal a b ne = refuted (a == b) (a == b) (eqb-true a b) ne refl
 
 is_qui_by : (rule : RawRule) → is_qui_rule rule ≡ true → IsQuiRule rule
-is_qui_by rule e = grind (arith, both_parts, e, eqb-true, stage_count, rule.left, rule.right)
+is_qui_by rule e = grind (arith, both_parts, eqb-true, stage_count)
 
 is_fit_by : (atom : RawAtom) → is_fit atom ≡ true → IsFitWritten atom
 is_fit_by atom e = grind (arith, both_parts (nat_le (nodes_written atom) MOST_NODES) (nat_le (depth_written atom) MOST_DEPTH) e)
@@ -285,7 +285,7 @@ module _ (source : Source) (fault : Fault) where
 
   lack_in : (in_space : Space) (name : Span) (has anywhere : Bool) → is_in source in_space (said source name) ≡ has → is_somewhere source (said source name) ≡ anywhere
       → In (lack_faults has anywhere name.from) fault → In (use_faults source in_space name) fault
-  lack_in in_space name has anywhere is there m = grind (arith, in_same, name.from)
+  lack_in in_space name has anywhere is there m = grind (arith, in_same)
 
   -- numbers of arguments
   arity_in : (known : Option ℕ) (n args at : ℕ) → known ≡ Some n → args ≢ n → fault ≡ wrong WrongArity at → In (arity_faults known args at) fault
@@ -368,7 +368,7 @@ module _ (source : Source) (fault : Fault) where
       (unless (is_some (turns_said source.text number)) (wrong OverLimit number.from) fault (ap is_some n) (e_ ∙ ap (wrong OverLimit) is))))
 
   home_in : (rule : RuleItem) → rule.home ≡ None → ¬ IsQuiRule rule.raw → fault ≡ wrong BadQui rule.raw.at → In (home_faults rule) fault
-  home_in rule home n is = grind (arith, unless, refuted, is_qui_by, rule.home, rule.raw, rule.raw.at)
+  home_in rule home n is = grind (arith, unless, refuted, is_qui_by)
 
   pub complete : Misnamed source fault → IsTwice source fault ⊎ Found
   complete (twice k) = inl k
@@ -384,7 +384,7 @@ module _ (source : Source) (fault : Fault) where
       let atom = through (λ (atom : RawAtom). atom.nodes) (state_atoms source) node (from_contains (raw_nodes (state_atoms source)) node c) in
       inr (of_state atom.from atom.member (names_state atom.from (in_right (pred_faults source atom.from) _ fault (via (node_faults source true) atom.from.nodes node fault atom.given (open_in node node.kind apart is)))))
   complete (backward_in_state atom c back is) = grind (arith, of_made, in_right, back_in atom back is, of_state, back_state atom (back_in atom back is), in_parts, from_contains (made_atoms source ++ state_atoms source) atom c)
-  complete (linear_in_clause atom its c named n is) = grind (arith, of_clause_atom, from_contains (clause_atoms source) atom c, in_right, in_same, linear_one its atom.name.from n is, atom.name.from)
+  complete (linear_in_clause atom its c named n is) = grind (arith, of_clause_atom, from_contains (clause_atoms source) atom c, in_right, in_same, linear_one its atom.name.from n is)
   complete (bad_qui rule c home n is) = inr (from_home rule (from_contains (rules_of source) rule c) (home_in rule home n is))
   complete (no_trace traces is) = inr (of_traces [] traces (is_one _ fault is))
   complete (two_traces first trace rest traces c is) =

@@ -70,10 +70,10 @@ module _ (source : Source) where
 
   nodes_alike : (nodes : List RawNode) → are_nodes_alike source nodes nodes ≡ true
   nodes_alike [] = refl
-  nodes_alike (node ∷ nodes) = grind (arith, same_bytes, same_number, node.args, node.at, nodes_alike nodes)
+  nodes_alike (node ∷ nodes) = grind (arith, same_bytes, same_number, nodes_alike nodes)
 
   itself : (atom : RawAtom) → alike atom atom ≡ true
-  itself atom = grind (arith, same_bytes, same_number, nodes_alike, atom.args, atom.nodes, atom.name)
+  itself atom = grind (arith, same_bytes, same_number, nodes_alike)
 
   -- an atom that was listed is written like one that counts
   abbrev is_seen : List RawAtom → List RawAtom → RawAtom → Bool

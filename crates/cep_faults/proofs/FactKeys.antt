@@ -119,7 +119,7 @@ module _ (source : Source) where
 
   -- atoms that are written alike are facts alike
   fact_alike : (a x : RawAtom) → is_written_alike source a x ≡ true → is_of_fact source a ≡ is_of_fact source x
-  fact_alike a x alike = grind (arith, both_true, bytes_eq-Decides, a.name, x.name, a.args, x.args, a.nodes, x.nodes)
+  fact_alike a x alike = grind (arith, both_true, bytes_eq-Decides)
 
   pub among_facts : (a : RawAtom) (atoms : List RawAtom) → is_of_fact source a ≡ true → list_any (is_written_alike source a) atoms ≡ list_any (is_written_alike source a) (filter (is_of_fact source) atoms)
   among_facts a [] fact = refl

@@ -12,7 +12,7 @@ use Rattle.cep_faults.proofs.Nths.{take_past}
 
 pub pending_push : (runs : List Run) (run : Run) → pending (runs ++ run ∷ []) ≡ run.level ∷ (repeat run.more (run.level ∷ []) ++ pending runs)
 pending_push [] run = ap (λ ys. run.level ∷ ys) (sym (append-nil (repeat run.more (run.level ∷ []))))
-pending_push (other ∷ runs) run = grind (arith, append_assoc, other.level, other.more, pending_push runs run, run.level, run.more)
+pending_push (other ∷ runs) run = grind (arith, append_assoc, pending_push runs run)
 
 pub repeat_some : (n l : ℕ) → 0 < n → repeat n (l ∷ []) ≡ l ∷ repeat (n - 1) (l ∷ [])
 repeat_some n l h = grind arith

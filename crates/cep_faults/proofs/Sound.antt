@@ -43,7 +43,7 @@ not_fit : (atom : RawAtom) → is_fit atom ≡ false → ¬ IsFitWritten atom
 not_fit atom e is = false≢true (sym e ∙ both_true (nat_le (nodes_written atom) MOST_NODES) (nat_le (depth_written atom) MOST_DEPTH) (le-leb (nodes_written atom) MOST_NODES is.nodes) (le-leb (depth_written atom) MOST_DEPTH is.depth))
 
 not_qui : (rule : RawRule) → is_qui_rule rule ≡ false → ¬ IsQuiRule rule
-not_qui rule e is = grind (arith, both_true, eq-eqb, stage_count, rule.left, is.qui, is.from, rule.right, is.to)
+not_qui rule e is = grind (arith, both_true, eq-eqb, stage_count, is.qui, is.from, is.to)
 
 none_of : {X : Type 0} (o : Option X) → is_some o ≡ false → o ≡ None
 none_of o e = grind arith
