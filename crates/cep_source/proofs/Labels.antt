@@ -37,7 +37,7 @@ module _ (text : List ℕ) (file : List RawItem) (kinds : Kinds) (are : AreKinds
   sorts_said name = rw (has_under kinds.sorts.places name, named_by.sorts.places name, has_place _ name, any_map (λ other. bytes_eq other.name name) (named source) kinds.sorts.items.items, are.sorts)
 
   preds_said : (name : List ℕ) → has_name kinds.preds.places name ≡ is_said source (map (λ pred. pred.name) (preds_of source)) name
-  preds_said name = grind (arith, has_under, has_place, any_map, source, kinds.preds.places, named_by.preds.places, kinds.preds.items.items, are.preds)
+  preds_said name = grind (arith, has_under, has_place, any_map, are.preds)
 
   pub labelled_by : (args : List Span) (right : Span) (name : List ℕ) → name ≡ said source right
       → ((length args == 0) && (not (has_name kinds.sorts.places name) && has_name kinds.preds.places name)) ≡ is_labelled source args right

@@ -66,11 +66,11 @@ module _ (source : Source) where
 
   blanks_met : (old : Variables) (nodes : List RawNode) → (met_nodes source old nodes).blanks ≡ blanks_after old.blanks nodes
   blanks_met old [] = refl
-  blanks_met old (node ∷ nodes) = grind (arith, blanks_met (met_site source old node.kind node.at node.at) nodes, node.kind, node.at, old.blanks)
+  blanks_met old (node ∷ nodes) = grind (arith, blanks_met (met_site source old node.kind node.at node.at) nodes)
 
   -- all nodes of the atoms were met
   pub are_variables : (atoms : List RawAtom) (variables : Variables) → variables ≡ met_nodes source none_met (raw_nodes atoms) → AreVariables source atoms variables
-  are_variables atoms variables is = record { firsts = ap (λ (v : Variables). v.firsts) is ∙ firsts_met 0 (raw_nodes atoms) [] [] (λ name. refl); blanks = ap (λ (v : Variables). v.blanks) is ∙ blanks_met none_met (raw_nodes atoms); }
+  are_variables atoms variables is = record { firsts = ap (λ (v : Variables). v.firsts) is ∙ firsts_met 0 (raw_nodes atoms) [] [] (λ name. refl); blanks = ap (λ (v : Variables). v.blanks) is ∙ blanks_met none_met (raw_nodes atoms) }
 
   -- the nodes of one more item
   met_more : {X : Type 0} (nodes_of : List X → List RawNode) (xs : List X) (i : ℕ) (x : X) (nodes : List RawNode) → nodes_of (take i xs ++ x ∷ []) ≡ nodes_of (take i xs) ++ nodes → i < length xs → x ≡ get_or xs i x

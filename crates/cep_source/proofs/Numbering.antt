@@ -35,4 +35,4 @@ module _ (text : List ℕ) (old new : Rules) (rule : RuleRef) (name : List ℕ) 
   rule_more called counted pushed listed declared = grind (arith, before, map-append, names, names_push, label, over_more)
 
 pub none_ruled : (text : List ℕ) (rules : Rules) → rules.table.items.items ≡ [] → rules.names.items ≡ [] → rules.unlabelled ≡ 0 → IsTable [] rules.table → AreRules text rules
-none_ruled text rules none nameless counted are = grind (arith, names, rules.table)
+none_ruled text rules none nameless counted are = grind (arith, names)

@@ -21,4 +21,4 @@ same_label source {left} {right} {left2} {right2} {args} {args2} is = grind arit
 module _ (source : Source) (before : List RawItem) (item : RawItem) (con : RawCon) (item_is : item ≡ Colon con.name con.args.now con.sort) (unlabelled : is_labelled source con.args.now con.sort ≡ false) where
   pub con_sorted : (old new : Clauses) → AreClausesAmong source before old → new.cons.items.items ≡ old.cons.items.items ++ con ∷ [] → new.clauses ≡ old.clauses
       → IsNamed source.text (λ con. con.name) new.cons → AreClausesAmong source (before ++ item ∷ []) new
-  con_sorted old new were pushed kept are = grind (arith, map-append, one_more, append-nil, old.cons.items.items, were.cons, were.clauses, con.sort)
+  con_sorted old new were pushed kept are = grind (arith, map-append, one_more, append-nil, were.cons, were.clauses)
