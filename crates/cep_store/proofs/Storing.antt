@@ -24,7 +24,7 @@ module _ (old new atoms : List (List ℕ)) (were : AreKeys old atoms) (are : Are
 
   -- the keys of atoms name terms, also where there are more of these
   pub keys_grown : AreKeys new atoms
-  keys_grown = record { terms = are; apart = were.apart; atoms = λ id key at. key_below (length old) (length new) key low (were.atoms id key at); }
+  keys_grown = record { terms = are; apart = were.apart; atoms = λ id key at. key_below (length old) (length new) key low (were.atoms id key at) }
 
   -- and they read the same atoms
   pub atoms_grown : atoms_by (terms_by new) atoms ≡ atoms_by (terms_by old) atoms
