@@ -1,5 +1,5 @@
 -- Offers and flags that are gone through one by one.
-use Rattle.std.proofs.Common.{◌≡◌, ℕ, zero, suc, ◌+◌, ◌-◌, ◌≤◌, ◌<◌, ◌^◌, Bool, true, false, List, [], ◌∷◌, ◌++◌, length, take, Some, slice_get, refl, sym, ap, append-nil, arith}
+use Rattle.std.proofs.Common.{◌≡◌, ℕ, zero, suc, ◌+◌, ◌≤◌, ◌<◌, ◌^◌, Bool, true, false, List, [], ◌∷◌, ◌++◌, length, take, Some, slice_get, refl, sym, ap, append-nil, arith}
 use Rattle.std.specs.List.{AllByRecursion, flat_map}
 use Rattle.std.proofs.lemmas.Grind.{flat_map-append}
 use Rattle.std.specs.FinMap as finite
@@ -84,10 +84,6 @@ joined_gathered laws program used side atoms bag side_bag atoms_bag same =
     (laws.once_kept (is_fact program.signature) _ (laws.sum_kept used (gathered atoms) bag atoms_bag))
     (laws.once_kept (is_fact program.signature) _ (laws.sum_kept used side bag side_bag))
     (λ a. rw (join_count laws program used (gathered atoms) a, join_count laws program used side a) (same_joined (is_fact program.signature a) (count_of used a) (count_of (gathered atoms) a) (count_of side a) (same a)))
-
--- an exchange of all atoms at once is what the offers do together
-exchanged_count : (t : Bool) (s e n g l r new : ℕ) → e ≡ 0 → l ≡ held t n → r ≡ held t g → new ≡ held t (s - held t (e + n) + g) → new ≡ held t (s - l + r)
-exchanged_count t s e n g l r new none f h is = grind arith
 
 pub exchanged : BagLaws → (program : Parts) (offers : List Offer) (needed given : List AtomTree) (state new : Multiset)
     → ((a : AtomTree) → count_of (all_need program offers) a ≡ held (is_fact program.signature a) (count_of (gathered needed) a))

@@ -16,18 +16,6 @@ use Rattle.cep_round.specs.Rounds.{needs, sum_of_sides, all_need, AreAdmitted, a
 held_join : (t : Bool) (x y : ℕ) → held t (x + held t y) ≡ held t (x + y)
 held_join t x y = grind arith
 
-held_none : (t : Bool) → held t 0 ≡ 0
-held_none t = grind arith
-
-used_too : (t : Bool) (u n s state count : ℕ) → count ≡ held t (u + n) → held t (count + s) ≤ state → held t (u + (n + s)) ≤ state
-used_too t u n s state count e within = grind arith
-
-nothing_more : (t : Bool) (u state : ℕ) → held t u ≤ state → held t (u + 0) ≤ state
-nothing_more t u state within = grind arith
-
-from_nothing : (t : Bool) (u n state : ℕ) → u ≡ 0 → held t (u + n) ≤ state → held t n ≤ state
-from_nothing t u n state e within = grind arith
-
 held_less : (t : Bool) (n m : ℕ) → n ≤ m → held t n ≤ m
 held_less t n m within = grind arith
 
@@ -63,9 +51,6 @@ pub each_admitted : (P : Offer → Type 0) (offers : List Offer) (flags : List B
 each_admitted P (offer ∷ offers) (true ∷ flags) all = (all.0, each_admitted P offers flags all.1)
 each_admitted P (offer ∷ offers) (false ∷ flags) all = each_admitted P offers flags all.1
 each_admitted P offers flags all = grind arith
-
-copies_more : (t : Bool) (u n state count : ℕ) → t ≡ false → count ≡ held t (u + n) → count ≤ state → state < u + n → ⊥
-copies_more t u n state count linear e within few = grind arith
 
 pub copies_there : BagLaws → (program : Parts) (state used : Multiset) (offer : Offer) (a : AtomTree) → is_fact program.signature a ≡ false → count_of state a < count_of used a + count_of (needs program offer) a → ¬ IsContained (joined program.signature used (needs program offer)) state
 copies_there laws program state used offer a linear few = grind (arith, join_count, program.signature)

@@ -40,9 +40,6 @@ held_some t n m e some = grind arith
 after_step : (t : Bool) (l r x o n : ℕ) → (t ≡ true → l ≤ 1) → (t ≡ true → 0 < l → 0 < r) → o ≡ held t (l + x) → n ≡ held t (r + x) → n ≡ held t (o - l + r)
 after_step t l r x o n one stays e f = grind arith
 
-first_there : (t : Bool) (l s o : ℕ) → (t ≡ true → l ≤ 1) → held t (l + s) ≤ o → l ≤ o
-first_there t l s o one within = grind arith
-
 rest_there : (t : Bool) (l r s o n : ℕ) → (t ≡ true → 0 < l → 0 < r) → held t (l + s) ≤ o → n ≡ held t (o - l + r) → held t s ≤ n
 rest_there t l r s o n stays within e = grind arith
 

@@ -5,8 +5,8 @@ use Rattle.std.specs.List.{AllByRecursion, flat_map}
 use Rattle.std.proofs.lemmas.List.{length-map, length-append}
 use Rattle.cep_base.specs.declared.limits.TheConstants.{MOST_PREMISES, MOST_RIGHT}
 use Rattle.cep_base.proofs.Elements.{both_all}
-use Rattle.cep_base.proofs.Lists.{holds_at, some_same, all_mapped, all_weaker, filter_few}
-use Rattle.cep_term.specs.Tree.{AtomTree, IsGroundAtom, IsAtomInRange}
+use Rattle.cep_base.proofs.Lists.{holds_at, some_same, all_mapped, filter_few}
+use Rattle.cep_term.specs.Tree.{AtomTree, IsGroundAtom}
 use Rattle.cep_term.specs.Multiset.{Multiset, count_of, gathered, held}
 use Rattle.cep_rule.specs.declared.rule.Rule.{Rule}
 use Rattle.cep_rule.specs.declared.parts.Parts.{Parts}
@@ -47,9 +47,6 @@ module _ (laws : RoundLaws) (program : Parts) (kept : IsProgram program) (offer 
   stay_typed : AllByRecursion (IsTyped program.signature rule.kinds) (kept_of program.signature rule)
   stay_typed = all_kept (IsTyped program.signature rule.kinds) (λ premise. premise.kept || is_fact program.signature premise.atom) rule.premises typed.premises
 
-  in_range : (atoms : List AtomTree) → AllByRecursion (IsTyped program.signature rule.kinds) atoms → AllByRecursion (IsAtomInRange (length offer.values)) atoms
-  in_range atoms all = grind (arith, all_weaker, laws.types.as_many, program.signature.cons, offer.values, is.values, program.signature, laws.types.in_range)
-
   ground : (atoms : List AtomTree) → AllByRecursion (IsTyped program.signature rule.kinds) atoms → AllByRecursion IsGroundAtom (full_instances offer.values atoms)
   ground atoms all = all_mapped (IsTyped program.signature rule.kinds) IsGroundAtom (full_instance offer.values) atoms (λ a. laws.types.ground program.signature rule.kinds offer.values a is.values) all
 
@@ -63,18 +60,6 @@ module _ (laws : RoundLaws) (program : Parts) (kept : IsProgram program) (offer 
   module _ (read : Rule) (numbered : slice_get program.rules offer.rule ≡ Some read) where
     same : rule ≡ read
     same = some_same rule read (sym is.numbered ∙ numbered)
-
-    pub needed_range : AllByRecursion (IsAtomInRange (length offer.values)) (needed_of read)
-    needed_range = rw (← same) (in_range (needed_of rule) typed.premises)
-
-    pub right_range : AllByRecursion (IsAtomInRange (length offer.values)) read.right
-    right_range = rw (← same) (in_range rule.right typed.right)
-
-    pub needed_read : needed_by program offer ≡ full_instances offer.values (needed_of read)
-    needed_read = rw (← same) needed_is
-
-    pub given_read : given_by program offer ≡ full_instances offer.values (read.right ++ kept_of program.signature read)
-    given_read = rw (← same) given_is
 
   pub needed_ground : AllByRecursion IsGroundAtom (needed_by program offer)
   needed_ground = rw needed_is (ground (needed_of rule) typed.premises)
