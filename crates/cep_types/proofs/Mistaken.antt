@@ -11,7 +11,6 @@ use Rattle.cep_parse.specs.Raw.{start_listed}
 use Rattle.cep_refusal.specs.declared.fault.Fault.{Fault}
 use Rattle.cep_refusal.specs.declared.reason.Reason.TheVariants.{TypeClash}
 use Rattle.cep_refusal.specs.First.{standing, IsFirstOrNone, first_in, wrong}
-use Rattle.cep_source.specs.declared.space.Space.TheVariants as space
 use Rattle.cep_source.specs.Items.{Source, ConItem, ContextItem, TraceItem, said, rules_of, clauses_of, contexts_of, traces_of}
 use Rattle.cep_source.specs.Spaces.{con_named}
 use Rattle.cep_source.specs.Uses.{stands_for_context, state_atoms}

@@ -5,7 +5,5 @@ use Rattle.cep_types.proofs.clashes.clause_clash.Goals as goal
 
 pub returns : goal.returns
 returns c =
-    let source = c.args.source.now in
-    let head = atom_at c.args.clause.now.head in
-    two_found source (head ∷ []) c.args.clause.now.goals.now c.in_ok-variables.variables c.in_ok-first.first c.in_ok-other.other c.first_of.result c.in_ok-variables.ensures
+    two_found c.args.source.now (atom_at c.args.clause.now.head ∷ []) c.args.clause.now.goals.now c.in_ok-variables.variables c.in_ok-first.first c.in_ok-other.other c.first_of.result c.in_ok-variables.ensures
     (rw append-nil c.in_ok-first.ensures) c.in_ok-other.ensures c.first_of.ensures

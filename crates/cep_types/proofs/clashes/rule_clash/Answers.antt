@@ -4,7 +4,5 @@ use Rattle.cep_types.proofs.clashes.rule_clash.Goals as goal
 
 pub returns : goal.returns
 returns c =
-    let source = c.args.source.now in
-    let rule = c.args.rule.now in
-    two_found source (atoms_of rule.left) (atoms_of rule.right) c.in_ok-variables.variables c.in_ok-first.first c.in_ok-other.other c.first_of.result c.in_ok-variables.ensures
+    two_found c.args.source.now (atoms_of c.args.rule.now.left) (atoms_of c.args.rule.now.right) c.in_ok-variables.variables c.in_ok-first.first c.in_ok-other.other c.first_of.result c.in_ok-variables.ensures
     (rw (← c.as_slice.ensures) c.in_ok-first.ensures) (rw (← c.as_slice-2.ensures) c.in_ok-other.ensures) c.first_of.ensures
