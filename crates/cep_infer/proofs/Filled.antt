@@ -1,6 +1,6 @@
 -- Which atoms and names of a raw file are tokens of the text, and that the nodes of an atom are its arguments.
 use Rattle.std.proofs.Common.{ℕ, Bool, true, false, not, List, [], ◌∷◌, map, filter, arith, Contains, if◌then◌else◌}
-use Rattle.std.specs.Prelude.{Some, cond}
+use Rattle.std.specs.Prelude.{Some}
 use Rattle.std.specs.List.{AllByRecursion, flat_map}
 use Rattle.cep_lex.specs.declared.token.Token.{Token}
 use Rattle.cep_parse.specs.declared.raw.RawAtom.{RawAtom}
@@ -18,24 +18,11 @@ use Rattle.cep_source.specs.Items.{Source, ConItem, ClauseItem, RuleItem, Contex
 use Rattle.cep_source.specs.Uses.{needed_atoms, made_atoms, clause_atoms, stands_for_context, atoms_written}
 use Rattle.cep_infer.specs.Shapes.{IsSource, AreFilled}
 use Rattle.cep_base.proofs.Elements.{both_all, all_at}
-use Rattle.cep_base.proofs.Lists.{all_mapped}
+use Rattle.cep_base.proofs.Lists.{all_mapped, all_flat, all_filtered as all_passing}
 
 -- what the law of raw files says
 abbrev pub MadeOfTokens : Type 0
 MadeOfTokens = (text : List ℕ) (tokens : List Token) (file : List RawItem) → File (symbols_of text tokens) file → AllByRecursion (IsItemOf tokens) file
-
--- what holds of all that each gives, and of those that pass
-all_flat : {X Y : Type 0} (P : X → Type 0) (Q : Y → Type 0) (f : X → List Y) (xs : List X) → ((x : X) → P x → AllByRecursion Q (f x)) → AllByRecursion P xs → AllByRecursion Q (flat_map f xs)
-all_flat P Q f [] each all = tt
-all_flat P Q f (x ∷ xs) each all = both_all Q (f x) (flat_map f xs) (each x all.0) (all_flat P Q f xs each all.1)
-
-passing_by : {X : Type 0} (P : X → Type 0) (b : Bool) (x : X) (xs : List X) → P x → AllByRecursion P xs → AllByRecursion P (cond b (x ∷ xs) xs)
-passing_by P true x xs is all = (is, all)
-passing_by P false x xs is all = all
-
-all_passing : {X : Type 0} (P : X → Type 0) (p : X → Bool) (xs : List X) → AllByRecursion P xs → AllByRecursion P (filter p xs)
-all_passing P p [] all = tt
-all_passing P p (x ∷ xs) all = passing_by P (p x) x (filter p xs) all.0 (all_passing P p xs all.1)
 
 module _ (tokens : List Token) where
   abbrev AreAtoms : List RawAtom → Type 0
