@@ -1,18 +1,12 @@
 -- The loops that gather numbers: what is found already, and what is still to come, are all.
-use Rattle.std.proofs.Common.{◌≡◌, ◌≤◌, ◌+◌, ℕ, suc, ◌==◌, Bool, true, false, cond, List, [], ◌∷◌, ◌++◌, length, drop, slice_get, Some, ap, sym, ◌∙◌, append_assoc, add-one, drop-cons}
+use Rattle.std.proofs.Common.{◌≡◌, ◌≤◌, ◌+◌, ℕ, suc, ◌==◌, Bool, true, false, cond, List, [], ◌∷◌, ◌++◌, length, drop, slice_get, Some, ap, sym, ◌∙◌, append_assoc, add-one}
 use Rattle.std.proofs.lemmas.List.{append-nil, drop_all}
-use Rattle.std.proofs.lemmas.Option.{slice_get_within, get_or_from_slice_get}
 use Rattle.cep_term.specs.Tree.{AtomTree}
 use Rattle.cep_rule.specs.declared.rule.Rule.{Rule}
 use Rattle.cep_rule.specs.Patterns.{ClauseTree}
 use Rattle.cep_rule.specs.Groundness.{Known, nothing, are_known, known_at, known_after, known_after_all}
-use Rattle.cep_modes.specs.Places.{either, pair_place, places_of, zero_unless, clause_callees, numbers_of, callees_by, some_callees, rule_places, all_places}
-
-pub drop_got : {X : Type 0} (xs : List X) (i : ℕ) (x : X) → slice_get xs i ≡ Some x → drop i xs ≡ x ∷ drop (i + 1) xs
-drop_got xs i x got =
-    drop-cons xs i x (slice_get_within xs i x got)
-    ∙ ap (λ y. y ∷ drop (suc i) xs) (get_or_from_slice_get xs i x x got)
-    ∙ ap (λ k. x ∷ drop k xs) (sym (add-one i))
+use Rattle.cep_modes.specs.Places.{either, pair_place, places_of, zero_unless, clause_callees, numbers_of, callees_by, rule_places, all_places}
+pub use Rattle.cep_base.proofs.Drops.{drop_at as drop_got}
 
 -- one more stands at the end, and all else after it
 pub one_more : {X : Type 0} (found : List X) (x : X) (left : List X) → (found ++ x ∷ []) ++ left ≡ found ++ x ∷ left
@@ -59,17 +53,6 @@ pub goal_learnt : (goals : List AtomTree) (i : ℕ) (goal : AtomTree) (known aft
 goal_learnt goals i goal known after whole got learnt all =
     ap (λ now. known_after_all now (drop (i + 1) goals)) learnt
     ∙ ap (known_after_all known) (sym (drop_got goals i goal got))
-    ∙ all
-
-pub callees_found : (positions : Known) (clauses : List ClauseTree) (numbers : List ℕ) (i number : ℕ) (clause : ClauseTree) (found new whole : List ℕ)
-    → slice_get numbers i ≡ Some number → slice_get clauses number ≡ Some clause → new ≡ found ++ some_callees positions (Some clause)
-    → found ++ callees_by positions clauses (drop i numbers) ≡ whole
-    → new ++ callees_by positions clauses (drop (i + 1) numbers) ≡ whole
-callees_found positions clauses numbers i number clause found new whole got there is all =
-    ap (λ list. list ++ callees_by positions clauses (drop (i + 1) numbers)) is
-    ∙ append_assoc found (some_callees positions (Some clause)) (callees_by positions clauses (drop (i + 1) numbers))
-    ∙ ap (λ found_clause. found ++ (some_callees positions found_clause ++ callees_by positions clauses (drop (i + 1) numbers))) (sym there)
-    ∙ ap (λ rest. found ++ callees_by positions clauses rest) (sym (drop_got numbers i number got))
     ∙ all
 
 pub rule_found : (rules : List Rule) (i : ℕ) (rule : Rule) (found new whole : List ℕ)
