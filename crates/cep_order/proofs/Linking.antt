@@ -75,7 +75,7 @@ links_begin entries begins links are = record {
 }
 
 pub no_links : (most : ℕ) → AreLinksFor [] (replicate most 0) []
-no_links most = record { lead = record { begin = λ place. omega (arith, nothing_at most place); back = λ place link there. none_some link there }; each = λ place step within. ap (λ (steps : List ℕ). times step steps) (no_link _ [] _ (nothing_at most place)); }
+no_links most = record { lead = record { begin = λ place. omega (arith, nothing_at most place); back = λ place link there. none_some link there }; each = λ place step within. ap (λ (steps : List ℕ). times step steps) (no_link _ [] _ (nothing_at most place)) }
 
 -- A number is linked.
 module _ (entries : List (List ℕ)) (numbers begins : List ℕ) (links : List Link) (step number last : ℕ) (link : Link) (are : AreLinksFor (entries ++ numbers ∷ []) begins links) (here : length entries ≡ step) (some : 0 < number) (within : number ≤ length begins)

@@ -148,7 +148,7 @@ module _ (seed : ℕ) (causes : List StepCause) (earlier : NamesEarlier causes) 
 
   -- The places of the flags are those of the ready steps.
   pub are_ready : (place : ℕ) → get_or flags place false ≡ true → AreReady causes is.taken (set_places flags)
-  are_ready place on = record { increasing = increasing flags; each = λ other. (λ there. flagged_is_ready other (set_there flags other there), λ ready. listed flags other (ready_is_flagged place on other ready)); }
+  are_ready place on = record { increasing = increasing flags; each = λ other. (λ there. flagged_is_ready other (set_there flags other there), λ ready. listed flags other (ready_is_flagged place on other ready)) }
 
   -- Where none is flagged all before the end are taken.
   module _ (none : (place : ℕ) → get_or flags place false ≡ true → ⊥) where

@@ -80,7 +80,7 @@ pub record IsDown (flags : List Bool) (counts : List ℕ) (height k levels node 
 
 module _ (flags : List Bool) (counts : List ℕ) (height k : ℕ) (tree : IsTree flags counts height) where
   pub down_first : k < set_before flags (length flags) → IsDown flags counts height k height 1 k
-  down_first some = let none : (1 * 2 ^ height - 2 ^ height) * 64 ≡ 0 = omega arith in record { before = omega (arith, ap (set_before flags) none); within = omega (arith, root_counts flags counts height tree); }
+  down_first some = let none : (1 * 2 ^ height - 2 ^ height) * 64 ≡ 0 = omega arith in record { before = omega (arith, ap (set_before flags) none); within = omega (arith, root_counts flags counts height tree) }
 
   module _ (levels below node left : ℕ) (one : levels ≡ below + 1) (some : 0 < node) (low : 2 ^ height ≤ node * 2 ^ levels) (high : (node + 1) * 2 ^ levels ≤ 2 * 2 ^ height) where
     twice : 2 ^ levels ≡ 2 * 2 ^ below
