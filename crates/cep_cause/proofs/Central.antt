@@ -1,11 +1,11 @@
--- The central law: in a reordering of a legal log each step that comes is legal where it comes, if the state that it leads to fits, and the last spot is the old one.
-use Rattle.std.proofs.Common.{◌≡◌, ◌⊎◌, inl, inr, ⊎_elim, ℕ, zero, suc, ◌+◌, ◌<◌, Bool, true, false, List, [], ◌∷◌, ◌++◌, length, Option, Some, None, refl, sym, ap, ◌∙◌, subst, arith, Contains}
+-- In a reordering of a legal log each step is legal where it comes, and the outcome is one.
+use Rattle.std.proofs.Common.{◌≡◌, ◌⊎◌, inl, inr, ⊎_elim, ℕ, zero, suc, ◌+◌, ◌<◌, Bool, true, false, List, [], ◌∷◌, ◌++◌, length, Option, Some, None, refl, sym, ap, ◌∙◌, subst, arith, Contains, ◌≤◌}
 use Rattle.std.proofs.lemmas.Option.{slice_get_within}
 use Rattle.std.specs.Prelude.{slice_get, unwrap_or, is_some, IfSome, ◌↔◌}
 use Rattle.std.specs.FinMap as finite
 use Rattle.std.proofs.lemmas.Bool.{false≢true}
-use Rattle.cep_base.proofs.Lists.{some_same}
-use Rattle.cep_base.proofs.Elements.{contains_none, contains_first, contains_cases, contains_left, contains_right, contains_either}
+use Rattle.cep_base.proofs.Lists.{some_same, holds_at}
+use Rattle.cep_base.proofs.Elements.{contains_none, contains_first, contains_cases, contains_left, contains_right, contains_either, contains_behind, contains_same, all_at}
 use Rattle.cep_term.specs.Multiset.{Multiset, gathered, IsContained}
 use Rattle.cep_rule.specs.declared.rule.Rule.{Rule}
 use Rattle.cep_rule.specs.declared.offer.Offer.{Offer}
@@ -15,17 +15,23 @@ use Rattle.cep_rule.specs.Matching.{state_after}
 use Rattle.cep_rule.specs.Stages.{own_group, leaving_group, HasOffer}
 use Rattle.cep_rule.specs.State.{Fits}
 use Rattle.cep_rule.specs.Step.{Step}
-use Rattle.cep_rule.specs.Steps.{Spot, IsMachineStep, start_spot}
+use Rattle.cep_rule.specs.Steps.{Spot, IsMachineStep, start_spot, stage_after}
 use Rattle.cep_log.specs.declared.log.LogStep.{LogStep}
-use Rattle.cep_log.specs.Legal.{IsLegalStep}
+use Rattle.cep_log.specs.Legal.{IsLegalStep, AreLegalSteps}
 use Rattle.cep_log.specs.Written.{DoTheSame}
 use Rattle.cep_cause.specs.Tokens.{start_tokens}
 use Rattle.cep_cause.specs.Touches.{Touch}
-use Rattle.cep_cause.proofs.Distinct.{Differ, differ_both}
+use Rattle.cep_cause.proofs.Distinct.{Differ, differ_both, weighs_less}
 use Rattle.cep_cause.proofs.Ordered.{three, IsNext, AreSpent, none_spent, spent_more}
-use Rattle.cep_cause.proofs.StatesAfter.{IsStateAfter, state_at_start, state_more, one_state_after}
-use Rattle.cep_cause.proofs.OldRun.{stage_by, stage_stays, stage_more, first_stage, LegalRun, passed, as_long, takes, adds, IsFamiliar, familiar, IsOldStep, old_step, old_end}
-use Rattle.cep_cause.proofs.Weights.{few_needed}
+use Rattle.cep_cause.proofs.StatesAfter.{IsStateAfter, state_at_start, state_more, one_state_after, stage_by, stage_stays, stage_more, first_stage, LegalRun, passed, as_long, takes, adds, IsFamiliar, familiar, IsOldStep, old_step, old_end, few_needed}
+use Rattle.cep_rule.specs.declared.parts.Parts.{Parts}
+use Rattle.cep_cause.specs.CauseLaws.{CauseLaws}
+use Rattle.cep_cause.specs.Reordered.{IsUnfitAt, StandAt}
+use Rattle.std.specs.List.{AllByRecursion, sum_by}
+use Rattle.std.proofs.lemmas.List.Sums.{sum_by-cons}
+use Rattle.cep_cause.specs.Reorderings.{Precedes, Respects, IsReordering}
+
+-- The central law: in a reordering of a legal log each step that comes is legal where it comes, if the state that it leads to fits, and the last spot is the old one.
 
 pub got : {X : Type 0} (xs : List X) (place : ℕ) → place < length xs → (x : X) × (slice_get xs place ≡ Some x)
 got [] place within = absurd (omega arith)
@@ -239,3 +245,122 @@ module _ (run : LegalRun) where
       (one_state_after run.laws run.program.signature run.program.start (takes run) (adds run) order end.done here.state run.last.state reached.state_is end.state_is reached.differ end.differ
       (λ other there. (end.are other).1 (let less = (all other).0 there in let long = as_long run in omega arith))
       (λ other there. (all other).1 (let less = (end.are other).0 there in let long = as_long run in omega arith))))
+
+-- Steps come to one outcome; and the written order is one of the orders.
+
+module _ (laws : CauseLaws) (program : Parts) (height : ℕ) where
+  -- A step leads to one state.
+  one_way : (old : Spot) (step : LogStep) (rule rule' : Rule) (new new' : Multiset) → slice_get program.rules step.offer.rule ≡ Some rule → slice_get program.rules step.offer.rule ≡ Some rule'
+      → Step program.signature rule step.offer.values old.state new → Step program.signature rule' step.offer.values old.state new' → new ≡ new'
+  one_way old step rule rule' new new' at at' does does' =
+      laws.one_state program.signature rule step.offer.values old.state new new' does
+      (subst (λ (rule : Rule). Step program.signature rule step.offer.values old.state new') (some_same rule' rule (sym at' ∙ at)) does')
+
+  one_next : (old new new' : Spot) (step : LogStep) → IsLegalStep program height old new step → IsLegalStep program height old new' step → new ≡ new'
+  one_next old new new' step is is' =
+      one_spot new new'
+      (is.machine.steps.stage ∙ ap (λ (rule : Rule). stage_after rule old.stage) (some_same is.rule is'.rule (sym is.machine.numbered ∙ is'.machine.numbered)) ∙ sym is'.machine.steps.stage)
+      (one_way old step is.rule is'.rule new.state new'.state is.machine.numbered is'.machine.numbered is.machine.steps.step is'.machine.steps.step)
+
+  -- a step that is legal does not lead to a state that does not fit
+  goes : (old new : Spot) (first step : LogStep) (rule : Rule) (other : Multiset) → first ≡ step → IsLegalStep program height old new first → slice_get program.rules step.offer.rule ≡ Some rule
+      → Step program.signature rule step.offer.values old.state other → (Fits other → ⊥) → ⊥
+  goes old new first step rule other same is at does unfit =
+      let is' : IsLegalStep program height old new step = subst (λ (s : LogStep). IsLegalStep program height old new s) same is in
+      unfit (subst Fits (one_way old step is'.rule rule new.state other is'.machine.numbered at is'.machine.steps.step does) is'.machine.steps.fits)
+
+  -- Steps that are all legal lead to no state that does not fit.
+  not_both : (prefix suffix steps : List LogStep) (step : LogStep) (old here last : Spot) (rule : Rule) (new : Multiset) → steps ≡ prefix ++ (step ∷ suffix) → AreLegalSteps program height steps old last → AreLegalSteps program height prefix old here
+      → slice_get program.rules step.offer.rule ≡ Some rule → Step program.signature rule step.offer.values here.state new → (Fits new → ⊥) → ⊥
+  not_both [] suffix (first ∷ steps) step old here last rule new parts all legal at does unfit =
+      let same : first ≡ step = cc in
+      goes old all.0 first step rule new same all.1 at (subst (λ (spot : Spot). Step program.signature rule step.offer.values spot.state new) legal does) unfit
+  not_both (one ∷ prefix) suffix (first ∷ steps) step old here last rule new parts all legal at does unfit =
+      let same : first ≡ one = cc in
+      let rest : steps ≡ prefix ++ (step ∷ suffix) = cc in
+      let next = one_next old legal.0 all.0 one legal.1 (subst (λ (s : LogStep). IsLegalStep program height old all.0 s) same all.1) in
+      not_both prefix suffix steps step all.0 here last rule new rest all.2 (subst (λ (spot : Spot). AreLegalSteps program height prefix spot here) next legal.2) at does unfit
+  not_both prefix suffix steps step old here last rule new parts all legal at does unfit = absurd cc
+
+  pub legal_or_unfit : (old last : Spot) (steps : List LogStep) (number : ℕ) → AreLegalSteps program height steps old last → IsUnfitAt program height old steps number → ⊥
+  legal_or_unfit old last steps number legal is = not_both is.before is.after steps is.step old is.here last is.rule is.new is.parts legal is.legal is.numbered is.leads is.unfit
+
+  -- One is the first that does.
+  as_far : (prefix suffix prefix' suffix' : List LogStep) (step step' : LogStep) (old here here' : Spot) (rule rule' : Rule) (new new' : Multiset) → prefix ++ (step ∷ suffix) ≡ prefix' ++ (step' ∷ suffix')
+      → AreLegalSteps program height prefix old here → AreLegalSteps program height prefix' old here'
+      → slice_get program.rules step.offer.rule ≡ Some rule → slice_get program.rules step'.offer.rule ≡ Some rule'
+      → Step program.signature rule step.offer.values here.state new → Step program.signature rule' step'.offer.values here'.state new'
+      → (Fits new → ⊥) → (Fits new' → ⊥) → length prefix ≡ length prefix'
+  as_far [] suffix [] suffix' step step' old here here' rule rule' new new' parts legal legal' at at' does does' unfit unfit' = refl
+  as_far [] suffix (one ∷ prefix') suffix' step step' old here here' rule rule' new new' parts legal legal' at at' does does' unfit unfit' =
+      let same : one ≡ step = cc in
+      absurd (goes old legal'.0 one step rule new same legal'.1 at (subst (λ (spot : Spot). Step program.signature rule step.offer.values spot.state new) legal does) unfit)
+  as_far (one ∷ prefix) suffix [] suffix' step step' old here here' rule rule' new new' parts legal legal' at at' does does' unfit unfit' =
+      let same : one ≡ step' = cc in
+      absurd (goes old legal.0 one step' rule' new' same legal.1 at' (subst (λ (spot : Spot). Step program.signature rule' step'.offer.values spot.state new') legal' does') unfit')
+  as_far (one ∷ prefix) suffix (other ∷ prefix') suffix' step step' old here here' rule rule' new new' parts legal legal' at at' does does' unfit unfit' =
+      let same : other ≡ one = cc in
+      let rest : prefix ++ (step ∷ suffix) ≡ prefix' ++ (step' ∷ suffix') = cc in
+      let next = one_next old legal'.0 legal.0 one (subst (λ (s : LogStep). IsLegalStep program height old legal'.0 s) same legal'.1) legal.1 in
+      ap suc (as_far prefix suffix prefix' suffix' step step' legal.0 here here' rule rule' new new' rest legal.2 (subst (λ (spot : Spot). AreLegalSteps program height prefix' spot here') next legal'.2) at at' does does' unfit unfit')
+
+  pub one_unfit : (old : Spot) (steps : List LogStep) (number number' : ℕ) → IsUnfitAt program height old steps number → IsUnfitAt program height old steps number' → number ≡ number'
+  one_unfit old steps number number' is is' =
+      let same = as_far is.before is.after is'.before is'.after is.step is'.step old is.here is'.here is.rule is'.rule is.new is'.new (sym is.parts ∙ is'.parts) is.legal is'.legal is.numbered is'.numbered is.leads is'.leads is.unfit is'.unfit in
+      let counted = is.counted in
+      let counted' = is'.counted in
+      omega arith
+
+-- A legal log in another order, told in version 2.
+
+-- How long an order is
+
+downto : ℕ → List ℕ
+downto zero = []
+downto (suc n) = n ∷ downto n
+
+downto_has : (n place : ℕ) → place < n → Contains (downto n) place
+unfolding downto
+downto_has zero place less = absurd (omega arith)
+downto_has (suc n) place less =
+    ⊎_elim
+    (λ below. contains_behind n (downto n) place (downto_has n place below))
+    (λ rest. ⊎_elim (λ same. contains_same n (downto n) place (sym same)) (λ more. absurd (omega arith)) rest)
+    (three place n)
+
+ones : {X : Type 0} (xs : List X) → sum_by (λ (x : X). 1) xs ≡ length xs
+ones [] = refl
+ones {X} (x ∷ xs) = let first = sum_by-cons (λ (x : X). 1) x xs in let rest = ones xs in omega arith
+
+downto_long : (n : ℕ) → length (downto n) ≡ n
+unfolding downto
+downto_long zero = refl
+downto_long (suc n) = ap suc (downto_long n)
+
+respects_differ : (touches : List Touch) (order : List ℕ) → Respects touches order → Differ order
+respects_differ touches [] respects = tt
+respects_differ touches (place ∷ order) respects = (λ there. (all_at (λ later. ¬ (place ≡ later) × ¬ Precedes touches later place) order place respects.0 there).0 refl, respects_differ touches order respects.1)
+
+pub not_longer : (touches : List Touch) (order : List ℕ) → IsReordering touches order → length order ≤ length touches
+not_longer touches order is =
+    let less = weighs_less (λ (place : ℕ). 1) order (downto (length touches)) (respects_differ touches order is.respects) (λ place there. downto_has (length touches) place ((is.steps place).0 there)) in
+    let one = ones order in
+    let all = ones (downto (length touches)) in
+    let long = downto_long (length touches) in
+    omega arith
+
+pub stand_long : {X : Type 0} (all : List X) (order : List ℕ) (xs : List X) → StandAt all order xs → length xs ≡ length order
+stand_long all (place ∷ order) (x ∷ xs) at = ap suc (stand_long all order xs at.1)
+stand_long all order xs at = grind arith
+
+-- The steps stand in a list where an order has them.
+pub stand : {X : Type 0} (all : List X) (order : List ℕ) → ((place : ℕ) → Contains order place → place < length all) → (xs : List X) × StandAt all order xs
+stand all [] within = ([], tt)
+stand all (place ∷ order) within =
+    let first = got all place (within place (contains_first place order)) in
+    let rest = stand all order (λ other there. within other (contains_behind place order other there)) in
+    (first.0 ∷ rest.0, (first.1, rest.1))
+
+pub stand_all : {X : Type 0} (P : X → Type 0) (all : List X) (order : List ℕ) (xs : List X) → AllByRecursion P all → StandAt all order xs → AllByRecursion P xs
+stand_all P all (place ∷ order) (x ∷ xs) holds at = (holds_at P all place x holds at.0, stand_all P all order xs holds at.1)
+stand_all P all order xs holds at = grind arith

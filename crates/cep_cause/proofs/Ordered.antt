@@ -9,7 +9,7 @@ use Rattle.cep_cause.specs.Tokens.{Token}
 use Rattle.cep_cause.specs.Touches.{Touch}
 use Rattle.cep_cause.specs.Reorderings.{Precedes, Respects, IsReordering}
 use Rattle.cep_cause.proofs.Distinct.{Differ, differ_both, weighs_less}
-use Rattle.cep_cause.proofs.Passing.{IsMadeBefore}
+use Rattle.cep_cause.proofs.Tokened.{IsMadeBefore}
 
 pub three : (a b : ℕ) → (a < b) ⊎ ((a ≡ b) ⊎ (b < a))
 three a b = grind arith

@@ -1,34 +1,156 @@
--- A legal log touches tokens: those that are present are the state, so there is a pick for each premise.
-use Rattle.std.proofs.Common.{◌≡◌, inl, inr, ⊎_elim, ℕ, ◌+◌, ◌<◌, ◌≤◌, Bool, true, false, List, [], ◌∷◌, ◌++◌, map, length, refl, sym, ap, ◌∙◌, arith, Contains}
-use Rattle.std.specs.Prelude.{is_some}
-use Rattle.std.proofs.lemmas.Bool.{false≢true}
-use Rattle.cep_base.proofs.Lists.{some_same, holds_at}
-use Rattle.cep_base.proofs.Elements.{map_cases, all_of}
+-- A legal log touches tokens, each step in one way.
+use Rattle.std.proofs.Common.{◌≡◌, ◌⊎◌, inl, inr, ⊎_elim, ℕ, ◌<◌, ◌≤◌, false, List, [], ◌∷◌, sym, ap, ◌∙◌, subst, arith, Contains, eqb-true, ◌+◌, length, Bool, true, ◌++◌, map, refl}
+use Rattle.std.proofs.lemmas.Bool.{eqb-false, false≢true}
+use Rattle.cep_base.proofs.Elements.{contains_none, contains_first, contains_behind, contains_cases, contains_same, map_cases, all_of}
 use Rattle.cep_term.specs.Tree.{Tree, AtomTree, IsGroundAtom}
-use Rattle.cep_term.specs.Multiset.{Multiset, count_of, gathered, sum_of, difference_of, held, IsContained, gained}
 use Rattle.cep_rule.specs.declared.signature.Signature.{Signature}
-use Rattle.cep_rule.specs.declared.rule.Rule.{Rule}
-use Rattle.cep_rule.specs.declared.parts.Parts.{Parts}
 use Rattle.cep_rule.specs.Patterns.{PremiseTree}
 use Rattle.cep_rule.specs.Typing.{is_fact}
-use Rattle.cep_rule.specs.Binding.{needed_of}
 use Rattle.cep_rule.specs.Instances.{full_instance, full_instances, left_of, used_by}
+use Rattle.cep_cause.specs.CauseLaws.{CauseLaws}
+use Rattle.cep_cause.specs.Tokens.{Token, IsPick, ArePicks, numbered, token_state, staying, picked_to_go, listed_copies, start_tokens, token_atoms}
+use Rattle.cep_cause.proofs.Tokened.{one_or_two, start_counts, HaveOneNumber, one_after, numbered_one, numbered_differ, differ_after, goes_present, goes_differ, staying_counts, AreBelow, below_after, made_later, weight, weigh_tokens, numbered_atoms, removed_atoms}
+use Rattle.std.specs.Prelude.{is_some}
+use Rattle.cep_base.proofs.Lists.{some_same, holds_at}
+use Rattle.cep_term.specs.Multiset.{gained, Multiset, count_of, gathered, sum_of, difference_of, held, IsContained}
+use Rattle.cep_rule.specs.declared.rule.Rule.{Rule}
+use Rattle.cep_rule.specs.declared.parts.Parts.{Parts}
+use Rattle.cep_log.specs.declared.log.LogStep.{LogStep}
+use Rattle.cep_cause.specs.Touches.{Touch, present_after, IsTouch, AreTouches, present_after_all}
+use Rattle.cep_rule.specs.Binding.{needed_of}
 use Rattle.cep_rule.specs.Matching.{state_after}
 use Rattle.cep_rule.specs.State.{IsState}
 use Rattle.cep_rule.specs.Steps.{Spot, start_spot}
 use Rattle.cep_rule.specs.Program.{IsTypedRule, IsDividedRule, IsProgram}
-use Rattle.cep_log.specs.declared.log.LogStep.{LogStep}
 use Rattle.cep_log.specs.Legal.{IsLegalStep, AreLegalSteps}
-use Rattle.cep_cause.specs.CauseLaws.{CauseLaws}
-use Rattle.cep_cause.specs.Tokens.{Token, numbered, listed_copies, start_tokens, token_atoms, token_state, staying, ArePicks, picked_to_go}
-use Rattle.cep_cause.specs.Touches.{Touch, present_after, present_after_all, IsTouch, AreTouches}
 use Rattle.cep_cause.proofs.Distinct.{Differ, weighs_less_if}
-use Rattle.cep_cause.proofs.Passing.{made_later, AreBelow, below_after}
-use Rattle.cep_cause.proofs.Picking.{weight, weigh_tokens, numbered_atoms, removed_atoms}
-use Rattle.cep_cause.proofs.Started.{one_or_two, start_counts}
-use Rattle.cep_cause.proofs.Weights.{own_weight, other_weight}
-use Rattle.cep_cause.proofs.Tokened.{HaveOneNumber, numbered_one, numbered_differ, one_after, differ_after, goes_present, goes_differ, staying_counts}
-use Rattle.cep_cause.proofs.Least.{MayBe, among_or_not, pick_or_none}
+use Rattle.cep_cause.proofs.StatesAfter.{own_weight, other_weight}
+
+-- The token that is picked: there is one, and one only.
+
+-- One only
+
+one_pick : (signature : Signature) (present used : List Token) (a : AtomTree) (one other : Token) → HaveOneNumber present → IsPick signature present used a one → IsPick signature present used a other → one ≡ other
+one_pick signature present used a one other number is is' = rw (number one other is.can.there is'.can.there (let less = is.least other is'.can in let more = is'.least one is.can in omega arith))
+
+pub one_picks : (signature : Signature) (values : List Tree) (present used : List Token) (premises : List PremiseTree) (ones others : List Token) → HaveOneNumber present
+    → ArePicks signature values present used premises ones → ArePicks signature values present used premises others → ones ≡ others
+one_picks signature values present used (premise ∷ premises) (one ∷ ones) (other ∷ others) number are are' =
+    let same = one_pick signature present used (full_instance values premise.atom) one other number are.0 are'.0 in
+    ap (λ (t : Token). t ∷ ones) same ∙ ap (λ rest. other ∷ rest) (one_picks signature values present (other ∷ used) premises ones others number (subst (λ (t : Token). ArePicks signature values present (t ∷ used) premises ones) same are.1) are'.1)
+one_picks signature values present used premises ones others number are are' = grind arith
+
+-- There is one
+
+-- Of tokens with a property one has the least number, or there is none.
+record IsLeast (P : Token → Type 0) (tokens : List Token) : Type 0 where
+  token : Token
+  there : Contains tokens token
+  has : P token
+  least : (other : Token) → Contains tokens other → P other → token.number ≤ other.number
+
+at_most : (a b : ℕ) → (a ≤ b) ⊎ (b < a)
+at_most a b = grind arith
+
+least_or_none : (P : Token → Type 0) → ((token : Token) → P token ⊎ (P token → ⊥)) → (tokens : List Token) → IsLeast P tokens ⊎ ((token : Token) → Contains tokens token → P token → ⊥)
+least_or_none P decides [] = inr (λ token there has. contains_none token there)
+least_or_none P decides (first ∷ tokens) =
+    ⊎_elim
+    (λ (rest : IsLeast P tokens). ⊎_elim
+    (λ has. ⊎_elim
+    (λ less. inl (record {
+      token = first;
+      there = contains_first first tokens;
+      has = has;
+      least = λ other there has'. ⊎_elim (λ (same : first ≡ other). let is = ap (λ (t : Token). t.number) same in omega arith) (λ later. let more = rest.least other later has' in omega arith) (contains_cases first tokens other there);
+    }))
+    (λ less. inl (record {
+      token = rest.token;
+      there = contains_behind first tokens rest.token rest.there;
+      has = rest.has;
+      least = λ other there has'. ⊎_elim (λ (same : first ≡ other). let is = ap (λ (t : Token). t.number) same in omega arith) (λ later. rest.least other later has') (contains_cases first tokens other there);
+    }))
+    (at_most first.number rest.token.number))
+    (λ hasn't. inl (record {
+      token = rest.token;
+      there = contains_behind first tokens rest.token rest.there;
+      has = rest.has;
+      least = λ other there has'. ⊎_elim (λ (same : first ≡ other). absurd (hasn't (subst P (sym same) has'))) (λ later. rest.least other later has') (contains_cases first tokens other there);
+    }))
+    (decides first))
+    (λ none. ⊎_elim
+    (λ has. inl (record {
+      token = first;
+      there = contains_first first tokens;
+      has = has;
+      least = λ other there has'. ⊎_elim (λ (same : first ≡ other). let is = ap (λ (t : Token). t.number) same in omega arith) (λ later. absurd (none other later has')) (contains_cases first tokens other there);
+    }))
+    (λ hasn't. inr (λ other there has'. ⊎_elim (λ (same : first ≡ other). hasn't (subst P (sym same) has')) (λ later. none other later has') (contains_cases first tokens other there)))
+    (decides first))
+    (least_or_none P decides tokens)
+
+module _ (laws : CauseLaws) where
+  one_token : (one other : Token) → (one ≡ other) ⊎ (one ≡ other → ⊥)
+  one_token one other = grind (arith, one_or_two laws.bags one.atom other.atom, eqb-true, eqb-false, one.number, other.number, laws.bags, one.atom, other.atom)
+
+  pub among_or_not : (tokens : List Token) (token : Token) → Contains tokens token ⊎ (Contains tokens token → ⊥)
+  among_or_not [] token = inr (λ there. contains_none token there)
+  among_or_not (first ∷ tokens) token = grind (arith, contains_same, contains_behind, contains_cases, one_token first token, among_or_not tokens token)
+
+  module _ (signature : Signature) (present : List Token) where
+    abbrev pub MayBe : List Token → AtomTree → Token → Type 0
+    MayBe used a token = (token.atom ≡ a) × (is_fact signature a ≡ false → Contains used token → ⊥)
+
+    decides : (used : List Token) (a : AtomTree) (token : Token) → MayBe used a token ⊎ (MayBe used a token → ⊥)
+    decides used a token = grind (arith, one_or_two laws.bags token.atom a, among_or_not used token, laws.bags, token.atom)
+
+    -- There is a pick, or no token may be picked.
+    pub pick_or_none : (used : List Token) (a : AtomTree) → ((token : Token) × IsPick signature present used a token) ⊎ ((token : Token) → Contains present token → MayBe used a token → ⊥)
+    pick_or_none used a =
+        ⊎_elim
+        (λ (is : IsLeast (MayBe used a) present). inl (
+          is.token,
+          record {
+            can = record { there = is.there; of_atom = is.has.0; unused = is.has.1 };
+            least = λ other can. is.least other can.there (can.of_atom, can.unused);
+          },
+        ))
+        (λ none. inr none)
+        (least_or_none (MayBe used a) (decides used a) present)
+
+-- Steps touch tokens in one way.
+
+same_touch : (one other : Touch) → one.uses ≡ other.uses → one.removes ≡ other.removes → one.makes ≡ other.makes → one.barrier ≡ other.barrier → one ≡ other
+same_touch one other uses removes makes barrier = rw (uses, removes, makes, barrier)
+
+module _ (program : Parts) where
+  one_touch : (next : ℕ) (present : List Token) (step : LogStep) (one other : Touch) → HaveOneNumber present → IsTouch program next present step one → IsTouch program next present step other → one ≡ other
+  one_touch next present step one other number is is' =
+      let signature = program.signature in
+      let values = step.offer.values in
+      let rule : is.rule ≡ is'.rule = some_same is.rule is'.rule (sym is.numbered_by ∙ is'.numbered_by) in
+      let uses : one.uses ≡ other.uses = one_picks signature values present [] is'.rule.premises one.uses other.uses number
+      (subst (λ (rule : Rule). ArePicks signature values present [] rule.premises one.uses) rule is.uses) is'.uses in
+      let removes : one.removes ≡ other.removes =
+      is.removes ∙ ap (λ (rule : Rule). picked_to_go signature rule.premises one.uses) rule ∙ ap (λ (tokens : List Token). picked_to_go signature is'.rule.premises tokens) uses ∙ sym is'.removes in
+      same_touch one other uses removes
+      (is.makes
+      ∙ ap (λ (rule : Rule). numbered next (gained (is_fact signature) (token_state (staying one.removes present)) (full_instances values rule.right))) rule
+      ∙ ap (λ (tokens : List Token). numbered next (gained (is_fact signature) (token_state (staying tokens present)) (full_instances values is'.rule.right))) removes
+      ∙ sym is'.makes)
+      (is.barrier ∙ ap (λ (rule : Rule). is_some rule.next) rule ∙ sym is'.barrier)
+
+  pub one_touches : (steps : List LogStep) (next : ℕ) (present : List Token) (ones others : List Touch) → AreBelow program next present → HaveOneNumber present → AreTouches program next present steps ones → AreTouches program next present steps others → ones ≡ others
+  one_touches (step ∷ steps) next present (one ∷ ones) (other ∷ others) below number are are' =
+      let same = one_touch next present step one other number are.0 are'.0 in
+      ap (λ (t : Touch). t ∷ ones) same
+      ∙ ap (λ (rest : List Touch). other ∷ rest)
+      (one_touches steps (next + length other.makes) (present_after present other) ones others
+      (below_after program next present step other are'.0 below) (one_after program next present step other are'.0 below number)
+      (subst (λ (t : Touch). AreTouches program (next + length t.makes) (present_after present t) steps ones) same are.1) are'.1)
+  one_touches steps next present ones others below number are are' = grind arith
+
+-- A legal log touches tokens: those that are present are the state, so there is a pick for each premise.
 
 module _ (laws : CauseLaws) (signature : Signature) (values : List Tree) (present : List Token) (state : Multiset) (differ : Differ present) (counts : (a : AtomTree) → count_of (gathered (token_atoms present)) a ≡ count_of state a) where
   abbrev instances : List PremiseTree → List AtomTree

@@ -1,11 +1,5 @@
-pub mod Differences
-pub mod Refusing
 pub mod Parted
-pub mod Doing
-pub mod Steps
 pub mod Options
 pub mod Verdicts
-pub mod Tellable
-pub mod Once
-pub mod OneStepCause
+pub mod Differences
 pub mod OneCause

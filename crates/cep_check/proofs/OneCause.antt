@@ -1,26 +1,228 @@
--- A log is refused for one cause at one line.
-use Rattle.std.proofs.Common.{◌≡◌, ⊎_elim, ℕ, List, [], ◌∷◌, ◌++◌, codes, Option, Some, None, refl, sym, ap, subst, ◌∙◌, arith}
-use Rattle.std.specs.Prelude.{IfSome}
-use Rattle.std.specs.List.{AllByRecursion}
+-- A log, and a step of it, are refused for one cause at one line.
+use Rattle.std.proofs.Common.{◌≡◌, ℕ, zero, suc, ◌+◌, ◌-◌, ◌<◌, List, ◌++◌, codes, decimal, Option, sym, ap, subst, ◌∙◌, arith, ⊎_elim, [], ◌∷◌, Some, None, refl}
+use Rattle.std.specs.Prelude.{slice_get, IfSome}
 use Rattle.cep_base.proofs.Lists.{some_same}
 use Rattle.cep_term.specs.BagLaws.{BagLaws}
-use Rattle.cep_term.specs.Tree.{atom_of}
+use Rattle.cep_term.specs.Tree.{AtomTree, atom_of}
+use Rattle.cep_term.specs.Multiset.{Multiset}
 use Rattle.cep_rule.specs.declared.rule.Rule.{Rule}
 use Rattle.cep_rule.specs.declared.parts.Parts.{Parts}
 use Rattle.cep_rule.specs.declared.offer.Offer.{Offer}
-use Rattle.cep_rule.specs.Steps.{Spot, start_spot}
-use Rattle.cep_text.specs.Texts.{offer_text}
+use Rattle.cep_rule.specs.Instances.{full_instances, left_of}
+use Rattle.cep_rule.specs.Derivations.{ProofTree, Proves, proof_height}
+use Rattle.cep_rule.specs.Stages.{own_group}
+use Rattle.cep_rule.specs.State.{Fits}
+use Rattle.cep_rule.specs.Steps.{Spot, MakesFit, start_spot}
+use Rattle.cep_text.specs.Texts.{offer_name, offer_text}
+use Rattle.cep_log.specs.declared.log.LogStep.{LogStep}
+use Rattle.cep_log.specs.declared.log.LogMid.{LogMid}
+use Rattle.cep_log.specs.Legal.{IsListing, AtomsRise, IsStepOf, IsLogOf}
+use Rattle.cep_step.specs.declared.limit.Limit.TheVariants.{Atom, State}
+use Rattle.cep_check.specs.declared.cause.Cause.{Cause}
+use Rattle.cep_check.specs.declared.cause.Cause.TheVariants.{StartStage, StartState, OtherStage, NotContained, NotProved, TooHigh, NotQuiet, OverLimit, StageLine, MidState, NotEnded, EndState}
+use Rattle.cep_check.specs.Causes.{IsOfStage, IsFirstDifference, IsAtPremise, CanTake, IsProvedStep, IsInTurn, IsWithinLimits, IsStaged, IsStepCause, cause_line, IsFirstAsked, IsTrulyQuiet, IsStartCause, IsEndCause, IsRefusedFrom, IsLogRefused}
+use Rattle.cep_check.specs.Telling.{stages_text, counts_text, cause_text}
+use Rattle.cep_check.proofs.Differences.{three_ways, OffersOrdered, first_offer_once, Fails, fails_once, difference_once, lack_once, first_asked_once, LeadsToOne, NeedsLeft, proofs_at, step_clash, one_spot, start_clash}
+use Rattle.std.specs.List.{AllByRecursion}
 use Rattle.cep_lines.specs.declared.end_word.EndWord.TheVariants.{Quiet}
 use Rattle.cep_log.specs.declared.log.Log.{Log}
-use Rattle.cep_log.specs.declared.log.LogStep.{LogStep}
 use Rattle.cep_log.specs.declared.log.LogEnd.{LogEnd}
-use Rattle.cep_log.specs.Legal.{AtomsRise, IsListing, IsStepOf, IsLogOf}
-use Rattle.cep_check.specs.declared.cause.Cause.{Cause}
-use Rattle.cep_check.specs.declared.cause.Cause.TheVariants.{StartStage, StartState, NotQuiet, NotEnded, EndState}
-use Rattle.cep_check.specs.Causes.{IsFirstAsked, IsTrulyQuiet, IsStartCause, IsStepCause, IsEndCause, IsRefusedFrom, IsLogRefused}
-use Rattle.cep_check.proofs.Once.{OffersOrdered, first_asked_once, difference_once}
-use Rattle.cep_check.proofs.OneStepCause.{AreToldAlike, counts_alike, stages_alike, step_alike}
-use Rattle.cep_check.proofs.Refusing.{LeadsToOne, NeedsLeft, step_clash, one_spot, start_clash}
+
+-- A step is refused for one cause at one line.
+
+-- Two causes are told alike.
+abbrev pub AreToldAlike : Parts → Cause → Cause → Type 0
+AreToldAlike program one two = cause_text program one ≡ cause_text program two
+
+module _ (laws : BagLaws) (order : OffersOrdered) (one : LeadsToOne) (needs : NeedsLeft) (program : Parts) where
+  pub counts_alike : (words between : List ℕ) (said said' is is' : ℕ) (a b : AtomTree) → (a ≡ b) × (said ≡ said') × (is ≡ is') → counts_text program.signature words said between is a ≡ counts_text program.signature words said' between is' b
+  counts_alike words between said said' is is' a b same = grind (arith, program.signature, same.1, same.2, same.0)
+
+  pub stages_alike : (words : List ℕ) (said said' is is' : ℕ) → said ≡ said' → is ≡ is' → stages_text program words said is ≡ stages_text program words said' is'
+  stages_alike words said said' is is' same same' = ap (λ n. stages_text program words n is) same ∙ ap (λ n. stages_text program words said' n) same'
+
+  module _ (height : ℕ) (old : Spot) (rule : Rule) (step : LogStep) where
+    abbrev pub goals : List AtomTree
+    goals = full_instances step.offer.values rule.backs
+
+    -- what a step has passed, test by test
+    abbrev pub Passed : ℕ → Type 0
+    Passed zero = Unit {0}
+    Passed (suc zero) = IsOfStage old.stage rule
+    Passed (suc (suc zero)) = CanTake program old rule step.offer
+    Passed (suc (suc (suc zero))) = IsProvedStep program height old rule step
+    Passed (suc (suc (suc (suc zero)))) = IsInTurn program height old rule step
+    Passed (suc (suc (suc (suc (suc zero))))) = IsInTurn program height old rule step × MakesFit rule step.offer.values
+    Passed (suc (suc (suc (suc (suc (suc zero)))))) = (new : Multiset) × IsWithinLimits program height old rule step new
+    Passed (suc (suc (suc (suc (suc (suc (suc zero))))))) = (new : Multiset) × IsStaged program height old rule step new
+    Passed (suc (suc (suc (suc (suc (suc (suc (suc n)))))))) = ⊥
+
+    passed_before : (n : ℕ) → Passed (suc n) → Passed n
+    passed_before zero p = tt
+    passed_before (suc zero) p = p.of_stage
+    passed_before (suc (suc zero)) p = p.can_take
+    passed_before (suc (suc (suc zero))) p = p.is_proved
+    passed_before (suc (suc (suc (suc zero)))) p = p.0
+    passed_before (suc (suc (suc (suc (suc zero))))) p = (p.1.in_turn, p.1.fit)
+    passed_before (suc (suc (suc (suc (suc (suc zero)))))) p = (p.0, p.1.within)
+    passed_before (suc (suc (suc (suc (suc (suc (suc n))))))) p = absurd p
+
+    passed_all_before : (k n m : ℕ) → m ≡ k + n → Passed m → Passed n
+    passed_all_before zero n m e p = let same : m ≡ n = omega (arith, e) in subst Passed same p
+    passed_all_before (suc k) n m e p = grind (arith, passed_before)
+
+    -- how many tests a step with the cause has passed
+    abbrev pub tests : Cause → ℕ
+    tests (OtherStage number) = 0
+    tests (NotContained atom have need) = 1
+    tests (NotProved place) = 2
+    tests (TooHigh place high) = 2
+    tests (NotQuiet offer) = 3
+    tests (OverLimit Atom) = 4
+    tests (OverLimit State) = 5
+    tests (StageLine said is) = 6
+    tests (MidState line atom said is) = 7
+    tests (StartStage said is) = 8
+    tests (StartState atom said is) = 8
+    tests NotEnded = 8
+    tests (EndState atom said is) = 8
+
+    has_passed : (cause : Cause) → IsStepCause program height old rule step cause → Passed (tests cause)
+    has_passed (OverLimit State) comes = (comes.0, comes.1.0)
+    has_passed (MidState line atom said is) comes = (comes.0, comes.1)
+    has_passed cause comes = grind arith
+
+    fails_next : (cause : Cause) → IsStepCause program height old rule step cause → Passed (suc (tests cause)) → ⊥
+    fails_next (OtherStage number) comes passed = comes.1 passed
+    fails_next (NotContained atom have need) comes passed = grind (arith, passed.contained, comes.1.wanted, comes.1.there, comes.1.lacks)
+    fails_next (NotProved place) comes passed = comes.1.3 (proofs_at program height step.proofs goals comes.1.2.before comes.1.0 comes.1.1 passed.proved comes.1.2.derivation comes.1.2.premise).0
+    fails_next (TooHigh place high) comes passed = omega (arith, (proofs_at program height step.proofs goals comes.1.2.before comes.1.0 comes.1.1 passed.proved comes.1.2.derivation comes.1.2.premise).1, comes.1.4, comes.1.5)
+    fails_next (NotQuiet offer) comes passed = passed.quiet comes.1 (offer, comes.2.is)
+    fails_next (OverLimit Atom) comes passed = comes.1 passed.1
+    fails_next (OverLimit State) comes passed =
+        let over = comes.1.1 in
+        over.2 (subst Fits (one program.signature rule step.offer.values old.state passed.0 over.0 passed.1.leads over.1) passed.1.fits)
+    fails_next (StageLine said is) comes passed = comes.3 (some_same said is (sym comes.1 ∙ passed.1.stage ∙ comes.2))
+    fails_next (MidState line atom said is) comes passed = passed
+    fails_next cause comes passed = absurd comes
+
+    no_fewer : (cause other : Cause) → IsStepCause program height old rule step cause → IsStepCause program height old rule step other → tests cause < tests other → ⊥
+    no_fewer cause other comes comes' fewer =
+        fails_next cause comes (passed_all_before (tests other - suc (tests cause)) (suc (tests cause)) (tests other) (omega (arith, fewer)) (has_passed other comes'))
+
+    as_many_tests : (cause other : Cause) → IsStepCause program height old rule step cause → IsStepCause program height old rule step other → tests cause ≡ tests other
+    as_many_tests cause other comes comes' = grind (arith, no_fewer cause other comes comes', no_fewer other cause comes' comes, three_ways (tests cause) (tests other))
+
+    unproved_fails : (proof : ProofTree) (goal : AtomTree) → (¬ Proves program proof goal) → Fails program height proof goal
+    unproved_fails proof goal not = λ ok. not ok.0
+
+    high_fails : (proof : ProofTree) (goal : AtomTree) (high : ℕ) → high ≡ proof_height proof → height < high → Fails program height proof goal
+    high_fails proof goal high is above = λ ok. let low = ok.1 in omega arith
+
+    proved_and_not : {P : Type 0} (place place' : ℕ) (proof proof' : ProofTree) (goal goal' : AtomTree) (at : IsAtPremise program height step.proofs goals place proof goal) (at' : IsAtPremise program height step.proofs goals place' proof' goal') → at.before ≡ at'.before → (¬ Proves program proof goal) → Proves program proof' goal' → P
+    proved_and_not place place' proof proof' goal goal' at at' same not proves = grind (arith, some_same, at'.derivation, step.proofs, at.derivation, at'.premise, at.premise)
+
+    other_stage_alike : (number : ℕ) (comes : IsStepCause program height old rule step (OtherStage number)) (other : Cause) → IsStepCause program height old rule step other → 0 ≡ tests other → AreToldAlike program (OtherStage number) other
+    other_stage_alike number comes (OtherStage number') comes' same = ap (λ n. codes "OtherStage " ++ offer_name (slice_get program.rules n)) (comes.0 ∙ sym comes'.0)
+    other_stage_alike number comes other comes' same = grind (arith, same)
+
+    lack_alike : (atom : _) (have need : ℕ) (comes : IsStepCause program height old rule step (NotContained atom have need)) (other : Cause) → IsStepCause program height old rule step other → 1 ≡ tests other → AreToldAlike program (NotContained atom have need) other
+    lack_alike atom have need comes (NotContained atom' have' need') comes' same =
+        counts_alike (codes "NotContained have ") (codes " need ") have have' need need' (atom_of atom) (atom_of atom')
+        (lack_once laws (left_of program.signature rule step.offer.values) old.state (atom_of atom) (atom_of atom') have have' need need' comes.1 comes'.1)
+    lack_alike atom have need comes other comes' same = grind (arith, same)
+
+    unproved_alike : (place : ℕ) (comes : IsStepCause program height old rule step (NotProved place)) (other : Cause) → IsStepCause program height old rule step other → 2 ≡ tests other → AreToldAlike program (NotProved place) other
+    unproved_alike place comes (NotProved place') comes' same =
+        let at = comes.1.2 in
+        let at' = comes'.1.2 in
+        let here = fails_once program height step.proofs goals place place' comes.1.0 comes'.1.0 comes.1.1 comes'.1.1 at at' (unproved_fails comes.1.0 comes.1.1 comes.1.3) (unproved_fails comes'.1.0 comes'.1.1 comes'.1.3) in
+        ap (λ n. codes "NotProved " ++ decimal n) (at.counted ∙ ap (λ n. n + 1) here ∙ sym at'.counted)
+    unproved_alike place comes (TooHigh place' high') comes' same =
+        proved_and_not place place' comes.1.0 comes'.1.0 comes.1.1 comes'.1.1 comes.1.2 comes'.1.2
+        (fails_once program height step.proofs goals place place' comes.1.0 comes'.1.0 comes.1.1 comes'.1.1 comes.1.2 comes'.1.2 (unproved_fails comes.1.0 comes.1.1 comes.1.3) (high_fails comes'.1.0 comes'.1.1 high' comes'.1.4 comes'.1.5))
+        comes.1.3 comes'.1.3
+    unproved_alike place comes other comes' same = grind (arith, same)
+
+    high_alike : (place high : ℕ) (comes : IsStepCause program height old rule step (TooHigh place high)) (other : Cause) → IsStepCause program height old rule step other → 2 ≡ tests other → AreToldAlike program (TooHigh place high) other
+    high_alike place high comes (NotProved place') comes' same =
+        proved_and_not place' place comes'.1.0 comes.1.0 comes'.1.1 comes.1.1 comes'.1.2 comes.1.2
+        (fails_once program height step.proofs goals place' place comes'.1.0 comes.1.0 comes'.1.1 comes.1.1 comes'.1.2 comes.1.2 (unproved_fails comes'.1.0 comes'.1.1 comes'.1.3) (high_fails comes.1.0 comes.1.1 high comes.1.4 comes.1.5))
+        comes'.1.3 comes.1.3
+    high_alike place high comes (TooHigh place' high') comes' same =
+        let at = comes.1.2 in
+        let at' = comes'.1.2 in
+        let here = fails_once program height step.proofs goals place place' comes.1.0 comes'.1.0 comes.1.1 comes'.1.1 at at' (high_fails comes.1.0 comes.1.1 high comes.1.4 comes.1.5) (high_fails comes'.1.0 comes'.1.1 high' comes'.1.4 comes'.1.5) in
+        let one_proof : comes.1.0 ≡ comes'.1.0 = some_same comes.1.0 comes'.1.0 (sym at.derivation ∙ ap (slice_get step.proofs) here ∙ at'.derivation) in
+        ap (λ n. codes "TooHigh " ++ decimal n ++ codes " " ++ decimal high) (at.counted ∙ ap (λ n. n + 1) here ∙ sym at'.counted)
+        ∙ ap (λ n. codes "TooHigh " ++ decimal place' ++ codes " " ++ decimal n) (comes.1.4 ∙ ap proof_height one_proof ∙ sym comes'.1.4)
+    high_alike place high comes other comes' same = grind (arith, same)
+
+    not_quiet_alike : (offer : Offer) (comes : IsStepCause program height old rule step (NotQuiet offer)) (other : Cause) → IsStepCause program height old rule step other → 3 ≡ tests other → AreToldAlike program (NotQuiet offer) other
+    not_quiet_alike offer comes (NotQuiet offer') comes' same = ap (λ o. codes "NotQuiet " ++ offer_text program o) (first_offer_once order program height old.state (own_group old.stage) offer offer' comes.2 comes'.2)
+    not_quiet_alike offer comes other comes' same = grind (arith, same)
+
+    atom_limit_alike : (comes : IsStepCause program height old rule step (OverLimit Atom)) (other : Cause) → IsStepCause program height old rule step other → 4 ≡ tests other → AreToldAlike program (OverLimit Atom) other
+    atom_limit_alike comes other comes' same = grind arith
+
+    state_limit_alike : (comes : IsStepCause program height old rule step (OverLimit State)) (other : Cause) → IsStepCause program height old rule step other → 5 ≡ tests other → AreToldAlike program (OverLimit State) other
+    state_limit_alike comes other comes' same = grind arith
+
+    stage_line_alike : (said is : ℕ) (comes : IsStepCause program height old rule step (StageLine said is)) (other : Cause) → IsStepCause program height old rule step other → 6 ≡ tests other → AreToldAlike program (StageLine said is) other
+    stage_line_alike said is comes (StageLine said' is') comes' same = stages_alike (codes "StageLine said ") said said' is is' (some_same said said' (sym comes.1 ∙ comes'.1)) (some_same is is' (sym comes.2 ∙ comes'.2))
+    stage_line_alike said is comes other comes' same = grind (arith, same)
+
+    -- the line of every cause but that of a listing is that of the step
+    own_line : (cause : Cause) → (tests cause ≡ 7 → ⊥) → step.line ≡ cause_line step cause
+    own_line cause other = grind arith
+
+    -- Two causes are told alike, at one line.
+    abbrev pub AreAlike : Cause → Cause → Type 0
+    AreAlike one two = (cause_line step one ≡ cause_line step two) × AreToldAlike program one two
+
+    module _ (listing : IfSome step.mid (λ (mid : LogMid). IsListing program.signature mid.state)) where
+      both_mid : (line line' : ℕ) (atom atom' : _) (said said' is is' : ℕ) → IsStepCause program height old rule step (MidState line atom said is) → IsStepCause program height old rule step (MidState line' atom' said' is') → AreAlike (MidState line atom said is) (MidState line' atom' said' is')
+      both_mid line line' atom atom' said said' is is' comes comes' =
+          let one_mid = comes.2 in
+          let other = comes'.2 in
+          let same : one_mid.0 ≡ other.0 = some_same one_mid.0 other.0 (sym one_mid.1 ∙ other.1) in
+          let after : comes.0 ≡ comes'.0 = one program.signature rule step.offer.values old.state comes.0 comes'.0 comes.1.within.leads comes'.1.within.leads in
+          let lists : IsListing program.signature other.0.state = subst (λ (found : Option LogMid). IfSome found (λ (mid : LogMid). IsListing program.signature mid.state)) other.1 listing in
+          let first : IsFirstDifference other.0.state comes'.0 (atom_of atom) said is =
+          subst (λ (mid : LogMid). IsFirstDifference mid.state comes'.0 (atom_of atom) said is) same
+          (subst (λ (state : Multiset). IsFirstDifference one_mid.0.state state (atom_of atom) said is) after one_mid.3) in (
+            one_mid.2 ∙ ap (λ (mid : LogMid). mid.line) same ∙ sym other.2,
+            counts_alike (codes "MidState said ") (codes " is ") said said' is is' (atom_of atom) (atom_of atom')
+                (difference_once laws other.0.state lists.rising comes'.0 (atom_of atom) (atom_of atom') said said' is is' first other.3),
+          )
+
+      mid_alike : (line : ℕ) (atom : _) (said is : ℕ) (comes : IsStepCause program height old rule step (MidState line atom said is)) (other : Cause) → IsStepCause program height old rule step other → 7 ≡ tests other → AreAlike (MidState line atom said is) other
+      mid_alike line atom said is comes (MidState line' atom' said' is') comes' same = both_mid line line' atom atom' said said' is is' comes comes'
+      mid_alike line atom said is comes other comes' same = grind (arith, same)
+
+      pub step_alike : (cause other : Cause) → IsStepCause program height old rule step cause → IsStepCause program height old rule step other → AreAlike cause other
+      step_alike cause other comes comes' = by cause comes (as_many_tests cause other comes comes')
+        where
+          -- at the step's line
+          at_step : (n : ℕ) → (n ≡ 7 → ⊥) → n ≡ tests other → step.line ≡ cause_line step other
+          at_step n apart same = own_line other (λ seven. apart (same ∙ seven))
+
+          by : (cause : Cause) → IsStepCause program height old rule step cause → tests cause ≡ tests other → AreAlike cause other
+          by (OtherStage number) comes same = (at_step 0 (λ e. omega (arith, e)) same, other_stage_alike number comes other comes' same)
+          by (NotContained atom have need) comes same = (at_step 1 (λ e. omega (arith, e)) same, lack_alike atom have need comes other comes' same)
+          by (NotProved place) comes same = (at_step 2 (λ e. omega (arith, e)) same, unproved_alike place comes other comes' same)
+          by (TooHigh place high) comes same = (at_step 2 (λ e. omega (arith, e)) same, high_alike place high comes other comes' same)
+          by (NotQuiet offer) comes same = (at_step 3 (λ e. omega (arith, e)) same, not_quiet_alike offer comes other comes' same)
+          by (OverLimit Atom) comes same = (at_step 4 (λ e. omega (arith, e)) same, atom_limit_alike comes other comes' same)
+          by (OverLimit State) comes same = (at_step 5 (λ e. omega (arith, e)) same, state_limit_alike comes other comes' same)
+          by (StageLine said is) comes same = (at_step 6 (λ e. omega (arith, e)) same, stage_line_alike said is comes other comes' same)
+          by (MidState line atom said is) comes same = mid_alike line atom said is comes other comes' same
+          by (StartStage said is) comes same = absurd comes
+          by (StartState atom said is) comes same = absurd comes
+          by NotEnded comes same = absurd comes
+          by (EndState atom said is) comes same = absurd comes
+
+-- A log is refused for one cause at one line.
 
 module _ (laws : BagLaws) (order : OffersOrdered) (one : LeadsToOne) (needs : NeedsLeft) (program : Parts) where
   start_alike : (log : Log) → IsLogOf program log → (cause other : Cause) → IsStartCause program log cause → IsStartCause program log other → AreToldAlike program cause other

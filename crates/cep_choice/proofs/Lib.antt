@@ -1,4 +1,3 @@
 pub mod LineBytes
 pub mod LineRead
 pub mod Drawing
-pub mod DrawnWithin

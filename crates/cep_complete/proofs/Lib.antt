@@ -1,11 +1,4 @@
-pub mod Gaining
-pub mod Values
-pub mod Groundness
-pub mod Derived
 pub mod Applying
 pub mod Extended
-pub mod Filled
 pub mod Finite
-pub mod Finding
-pub mod Rising
 pub mod OffersThere

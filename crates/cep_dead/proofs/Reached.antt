@@ -21,9 +21,7 @@ use Rattle.cep_rule.specs.Program.{IsTypedRule, IsProgram}
 use Rattle.cep_dead.specs.Tables.{of_stage, IsOpen}
 use Rattle.cep_dead.specs.Rounds.{stage_of, premises_of, RulePasses, IsInRound, IsDead}
 use Rattle.cep_dead.specs.Moves.{first_spot, Moves, AreMoves}
-use Rattle.cep_dead.proofs.Opened.{instances_pass, instance_opened}
-use Rattle.cep_dead.proofs.Growing.{open_later, later_item, later_open, later_all}
-use Rattle.cep_dead.proofs.Derived.{all_derived_open}
+use Rattle.cep_dead.proofs.Growing.{instances_pass, instance_opened, open_later, later_item, later_open, later_all, all_derived_open}
 
 -- A stage and a state are in the table of a round.
 pub record IsInTable (program : Parts) (round : ℕ) (spot : Spot) : Type 0 where

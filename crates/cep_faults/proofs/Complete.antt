@@ -1,7 +1,7 @@
--- What is wrong is found.
+-- The first of all faults, and that what is wrong is found.
 use Rattle.std.proofs.Common.{◌≡◌, ◌≢◌, ℕ, ◌⊎◌, inl, inr, ⊎_elim, ◌==◌, Bool, true, false, ◌||◌, ◌&&◌, not, nat_lt, nat_le, if◌then◌else◌, List, [], ◌∷◌, ◌++◌, length, map, filter, Option, Some, None, is_some, refl, ap, sym, ◌∙◌, subst, arith}
 use Rattle.std.specs.Option.{option_map}
-use Rattle.std.specs.List.{flat_map, slice_get, sum_by}
+use Rattle.std.specs.List.{flat_map, slice_get, sum_by, Contains}
 use Rattle.std.proofs.lemmas.Bool.{eqb-true, lt-ltb}
 use Rattle.cep_base.specs.Kinds.{is_backward}
 use Rattle.cep_base.specs.declared.kind.PredKind.{PredKind}
@@ -20,7 +20,7 @@ use Rattle.cep_parse.specs.declared.raw.RawStart.TheVariants as state
 use Rattle.cep_parse.specs.Raw.{atoms_in, atoms_of, raw_nodes, start_listed}
 use Rattle.cep_refusal.specs.declared.fault.Fault.{Fault}
 use Rattle.cep_refusal.specs.declared.reason.Reason.TheVariants.{WrongArity, VarInContext, BwdInState, LinearInClause, BadQui, TwoTraces, OverLimit}
-use Rattle.cep_refusal.specs.First.{wrong}
+use Rattle.cep_refusal.specs.First.{wrong, standing, IsFirstOrNone, first_of, first_in}
 use Rattle.cep_source.specs.declared.space.Space.{Space}
 use Rattle.cep_source.specs.declared.space.Space.TheVariants as space
 use Rattle.cep_source.specs.Items.{Source, PredItem, ConItem, ClauseItem, RuleItem, ContextItem, TraceItem, said, preds_of, cons_of, clauses_of, rules_of, interactives_of, contexts_of, traces_of}
@@ -34,8 +34,11 @@ use Rattle.cep_faults.specs.Misnamed.Misnamed.{twice, unknown, wrong_kind, wrong
 use Rattle.cep_faults.specs.Limits.{IsOver, arguments_of}
 use Rattle.cep_faults.specs.Faults.{is_somewhere, lack_faults, use_faults, arity_faults, pred_arity, pred_faults, con_arity, kind_faults, node_faults, names_faults, back_by, back_faults, linear_by, clause_atom_faults, side_atom_faults, elem_faults, is_fit, state_faults, listed_faults, past_most, argument_faults, predicate_faults, con_faults, premise_faults, right_faults, is_qui_rule, home_faults, variable_faults, rule_faults, clause_faults, context_faults, begin_faults, turns_faults, trace_faults}
 use Rattle.cep_faults.specs.Totals.{count_faults, start_faults, two_faults, traces_faults, all_faults}
-use Rattle.cep_base.proofs.Members.{In, here, in_nil, in_one, in_same, in_left, in_right, in_parts, through, via, image, mapped, from_contains}
-use Rattle.cep_faults.proofs.Spread.{kept_from, somewhere_of, nowhere_of, stage_count}
+use Rattle.cep_base.proofs.Members.{In, here, in_nil, in_one, in_same, in_left, in_right, in_parts, through, via, image, mapped, from_contains, to_contains}
+use Rattle.cep_faults.proofs.Sound.{kept_from, somewhere_of, nowhere_of, stage_count, sound}
+use Rattle.cep_base.proofs.Foremost.{foremost_union, foremost_same, foremost_among}
+
+-- What is wrong is found.
 
 is_one : (w fault : Fault) → fault ≡ w → In (w ∷ []) fault
 is_one w fault e = subst (In (w ∷ [])) (sym e) (here w [])
@@ -391,3 +394,15 @@ module _ (source : Source) (fault : Fault) where
       inr (of_traces (first ∷ rest) traces (in_right (start_faults source first) _ fault
       (subst (In (two_faults rest)) (sym is) (mapped (λ (other : TraceItem). wrong TwoTraces other.at) rest trace (from_contains rest trace c)))))
   complete (over at m is) = inr (over_all at m is)
+
+-- The first of all faults.
+
+-- with names that are declared again
+pub all_named : (source : Source) (first other answer : Option Fault) → IsFirstOrNone (IsTwice source) first
+    → other ≡ first_in (all_faults source) → answer ≡ first_of first other → IsFirstOrNone (Misnamed source) answer
+all_named source first other answer again others is =
+    subst (IsFirstOrNone (Misnamed source)) (sym (is ∙ ap (first_of first) others))
+    (foremost_same standing (λ fault. IsTwice source fault ⊎ Contains (all_faults source) fault) (Misnamed source) (first_of first (first_in (all_faults source)))
+    (λ fault. ⊎_elim (λ h. twice h) (λ k. sound source fault (from_contains (all_faults source) fault k)))
+    (λ fault h. ⊎_elim (λ k. inl k) (λ k. inr (to_contains (all_faults source) fault k)) (complete source fault h))
+    (foremost_union standing (IsTwice source) (Contains (all_faults source)) first (first_in (all_faults source)) again (foremost_among standing (all_faults source))))

@@ -1,11 +1,6 @@
-pub mod Firsts
-pub mod Nths
-pub mod Pending
-pub mod Spread
 pub mod Sound
 pub mod Complete
-pub mod Joined
 pub mod FactKeys
 pub mod Counting
-pub mod TraceFaults
+pub mod Firsts
 pub mod Declared

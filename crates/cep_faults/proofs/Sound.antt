@@ -1,5 +1,16 @@
 -- What is found is wrong.
-use Rattle.std.proofs.Common.{◌≡◌, ◌≢◌, ℕ, ⊎_elim, ◌==◌, Bool, true, false, ◌&&◌, ◌||◌, not, nat_lt, nat_le, if◌then◌else◌, List, [], ◌∷◌, ◌++◌, length, map, filter, Option, Some, None, is_some, refl, ap, sym, ◌∙◌, arith}
+use Rattle.std.proofs.Common.{◌≡◌, ⊎_elim, subst, ℕ, Bool, true, false, ◌||◌, if◌then◌else◌, List, [], ◌∷◌, length, filter, refl, ap, sym, ◌∙◌, count_by, cond, arith, ◌≢◌, ◌==◌, ◌&&◌, not, nat_lt, nat_le, ◌++◌, map, Option, Some, None, is_some}
+use Rattle.std.proofs.lemmas.List.Sums.{sum_by-cons}
+use Rattle.cep_parse.specs.declared.raw.RawElem.{RawElem}
+use Rattle.cep_parse.specs.declared.raw.RawElem.TheVariants as elem
+use Rattle.cep_refusal.specs.declared.fault.Fault.{Fault}
+use Rattle.cep_source.specs.declared.space.Space.{Space}
+use Rattle.cep_source.specs.declared.space.Space.TheVariants as space
+use Rattle.cep_source.specs.Items.{Source, PredItem, ConItem, ClauseItem, RuleItem, ContextItem, TraceItem, said, preds_of, cons_of, clauses_of, rules_of, interactives_of, contexts_of, traces_of}
+use Rattle.cep_source.specs.Spaces.{is_in, pred_named, con_named, kind_of}
+use Rattle.cep_source.specs.Uses.{stages_named, uses_in, needed_atoms, made_atoms, clause_atoms, state_atoms, atoms_written, stands_for_context, stages_at, contexts_at, applied_at}
+use Rattle.cep_faults.specs.Faults.{is_somewhere, is_stage, lack_faults, use_faults, arity_faults, pred_arity, pred_faults, con_arity, kind_faults, node_faults, names_faults, back_by, back_faults, linear_by, linear_faults, clause_atom_faults, elem_faults, is_fit, unfit_faults, state_faults, listed_faults, past, past_most, argument_faults, predicate_faults, con_faults, premise_faults, right_faults, is_qui_rule, home_faults, variable_faults, rule_faults, clause_faults, context_faults, begin_faults, turns_faults, trace_faults}
+use Rattle.cep_base.proofs.Members.{In, here, there, in_nil, in_one, in_parts, in_same, in_left, in_right, through, via, image, mapped, to_contains}
 use Rattle.std.specs.Option.{option_map}
 use Rattle.std.specs.List.{flat_map, slice_get, sum_by}
 use Rattle.std.proofs.lemmas.Bool.{false≢true, le-leb, eq-eqb, eqb-false, ltb-true, or_cases}
@@ -11,30 +22,78 @@ use Rattle.cep_parse.specs.declared.raw.RawKind.{RawKind}
 use Rattle.cep_parse.specs.declared.raw.RawKind.TheVariants as kind
 use Rattle.cep_parse.specs.declared.raw.RawNode.{RawNode}
 use Rattle.cep_parse.specs.declared.raw.RawAtom.{RawAtom}
-use Rattle.cep_parse.specs.declared.raw.RawElem.{RawElem}
-use Rattle.cep_parse.specs.declared.raw.RawElem.TheVariants as elem
 use Rattle.cep_parse.specs.declared.raw.RawRule.{RawRule}
 use Rattle.cep_parse.specs.declared.raw.RawStart.{RawStart}
 use Rattle.cep_parse.specs.declared.raw.RawStart.TheVariants as state
 use Rattle.cep_parse.specs.Raw.{atoms_in, atoms_of, raw_nodes, start_listed}
-use Rattle.cep_refusal.specs.declared.fault.Fault.{Fault}
 use Rattle.cep_refusal.specs.declared.reason.Reason.TheVariants.{WrongArity, VarInContext, BadQui, TwoTraces, OverLimit}
 use Rattle.cep_refusal.specs.First.{wrong}
-use Rattle.cep_source.specs.declared.space.Space.{Space}
-use Rattle.cep_source.specs.declared.space.Space.TheVariants as space
-use Rattle.cep_source.specs.Items.{Source, PredItem, ConItem, ClauseItem, RuleItem, ContextItem, TraceItem, said, preds_of, cons_of, clauses_of, rules_of, interactives_of, contexts_of, traces_of}
-use Rattle.cep_source.specs.Spaces.{is_in, pred_named, con_named, kind_of}
-use Rattle.cep_source.specs.Uses.{uses_in, needed_atoms, made_atoms, clause_atoms, state_atoms, atoms_written, stands_for_context, stages_at, stages_named, contexts_at, applied_at}
 use Rattle.cep_source.specs.Variables.{Occurrence, variables_of}
 use Rattle.cep_source.specs.Starts.{IsFitWritten, nodes_written, depth_written, start_atoms, counting, turns_said}
 use Rattle.cep_faults.specs.Misnamed.{Misnamed, IsQuiRule}
 use Rattle.cep_faults.specs.Misnamed.Misnamed.{unknown, wrong_kind, wrong_arity, wrong_term_arity, variable_in_state, backward_in_state, linear_in_clause, bad_qui, no_trace, two_traces, over}
 use Rattle.cep_faults.specs.Premises.{state_premises_of, backward_of}
 use Rattle.cep_faults.specs.Limits.{IsOver, arguments_of}
-use Rattle.cep_faults.specs.Faults.{is_somewhere, lack_faults, use_faults, arity_faults, pred_arity, pred_faults, con_arity, kind_faults, node_faults, names_faults, back_by, back_faults, linear_by, linear_faults, clause_atom_faults, elem_faults, is_fit, unfit_faults, state_faults, listed_faults, past, past_most, argument_faults, predicate_faults, con_faults, premise_faults, right_faults, is_qui_rule, home_faults, variable_faults, rule_faults, clause_faults, context_faults, begin_faults, turns_faults, trace_faults}
 use Rattle.cep_faults.specs.Totals.{count_faults, start_faults, two_faults, traces_faults, all_faults}
-use Rattle.cep_base.proofs.Members.{In, here, in_nil, in_one, in_same, in_left, in_right, in_parts, through, via, image, mapped, to_contains}
-use Rattle.cep_faults.proofs.Spread.{differing, holding, kept_in, somewhere, nowhere, stage_count}
+
+-- What tests, spaces and sides say of faults.
+
+-- a fault where a test fails, and where it holds
+pub differing : (b : Bool) (w fault : Fault) → In (let found : List Fault = if b then [] else w ∷ [] in found) fault → (b ≡ false) × (fault ≡ w)
+differing b w fault h = grind (arith, in_nil, in_one)
+
+pub holding : (b : Bool) (w fault : Fault) → In (let found : List Fault = if b then w ∷ [] else [] in found) fault → (b ≡ true) × (fault ≡ w)
+holding b w fault h = grind (arith, in_one, in_nil)
+
+-- what a filter keeps
+kept_there : {X : Type 0} (p : X → Bool) (b : Bool) (x y : X) (xs : List X) → In (filter p xs) y → In (let kept : List X = if b then x ∷ filter p xs else filter p xs in kept) y
+kept_there p b x y xs h = grind (arith, there)
+
+kept_here : {X : Type 0} (p : X → Bool) (b : Bool) (x : X) (xs : List X) → b ≡ true → In (let kept : List X = if b then x ∷ filter p xs else filter p xs in kept) x
+kept_here p b x xs e = grind (arith, here)
+
+pub kept_in : {X : Type 0} (p : X → Bool) (xs : List X) (x : X) → In xs x → p x ≡ true → In (filter p xs) x
+kept_in p (z ∷ xs) x (there a b c h) is = kept_there p (p z) z x xs (kept_in p xs x h is)
+kept_in p xs x h is = grind (arith, in_nil, kept_here)
+
+kept_by : {X : Type 0} (p : X → Bool) (b : Bool) (x y : X) (xs : List X) → p x ≡ b → (In (filter p xs) y → In xs y × (p y ≡ true)) → In (let kept : List X = if b then x ∷ filter p xs else filter p xs in kept) y → In (x ∷ xs) y × (p y ≡ true)
+kept_by p true x y xs is rest h = ⊎_elim (λ one. let same = in_one x y one in (subst (In (x ∷ xs)) (sym same) (here x xs), ap p same ∙ is)) (λ m. (there x y xs (rest m).0, (rest m).1)) (in_parts (x ∷ []) (filter p xs) y h)
+kept_by p false x y xs is rest h = (there x y xs (rest h).0, (rest h).1)
+
+pub kept_from : {X : Type 0} (p : X → Bool) (xs : List X) (x : X) → In (filter p xs) x → In xs x × (p x ≡ true)
+kept_from p [] x h = absurd (in_nil x h)
+kept_from p (z ∷ xs) x h = kept_by p (p z) z x xs refl (kept_from p xs x) h
+
+-- the spaces that have a name
+module _ (source : Source) (name : List ℕ) where
+  abbrev has : Space → Bool
+  has in_space = is_in source in_space name
+
+  among : (s c p t n r : Bool) → has space.Sorts ≡ s → has space.Constructors ≡ c → has space.Predicates ≡ p → has space.Stages ≡ t → has space.Contexts ≡ n → has space.Rules ≡ r
+      → (s || c || p || t || n || r) ≡ true → (in_space : Space) × (has in_space ≡ true)
+  among s c p t n r a b d e f g h = grind arith
+
+  pub somewhere : is_somewhere source name ≡ true → (in_space : Space) × (is_in source in_space name ≡ true)
+  somewhere h = among (has space.Sorts) (has space.Constructors) (has space.Predicates) (has space.Stages) (has space.Contexts) (has space.Rules) refl refl refl refl refl refl h
+
+  none_of_six : (s c p t n r : Bool) → (s || c || p || t || n || r) ≡ false → (s ≡ false) × (c ≡ false) × (p ≡ false) × (t ≡ false) × (n ≡ false) × (r ≡ false)
+  none_of_six s c p t n r h = grind arith
+
+  pub nowhere : is_somewhere source name ≡ false → (in_space : Space) → is_in source in_space name ≡ false
+  nowhere h in_space = grind (arith, none_of_six, has)
+
+  pub nowhere_of : ((in_space : Space) → is_in source in_space name ≡ false) → is_somewhere source name ≡ false
+  nowhere_of no_ = rw (no_ space.Sorts, no_ space.Constructors, no_ space.Predicates, no_ space.Stages, no_ space.Contexts, no_ space.Rules) refl
+
+  pub somewhere_of : (in_space : Space) → is_in source in_space name ≡ true → is_somewhere source name ≡ true
+  somewhere_of in_space is = grind (arith, nowhere)
+
+-- the stages that a side names are its elements that name one
+pub stage_count : (side : List RawElem) → count_by is_stage side ≡ length (stages_named side)
+stage_count [] = refl
+stage_count (elem.Atom kept atom ∷ side) = stage_count side
+stage_count (elem.Qui span ∷ side) = stage_count side
+stage_count (elem.Stage name ∷ side) = omega (arith, sum_by-cons (λ (other : RawElem). cond (is_stage other) 1 0) (elem.Stage name) side, stage_count side)
 
 both_true : (a b : Bool) → a ≡ true → b ≡ true → (a && b) ≡ true
 both_true a b x y = rw (x, y) refl
@@ -66,7 +125,7 @@ module _ (source : Source) where
   lack : (in_space : Space) (name : Span) (has anywhere : Bool) → In (uses_in source in_space) name → is_in source in_space (said source name) ≡ has → is_somewhere source (said source name) ≡ anywhere
       → AreWrong (lack_faults has anywhere name.from)
   lack in_space name true anywhere m h a = nothing
-  lack in_space name false true m h a = λ fault found. let there = somewhere source (said source name) a in wrong_kind in_space there.0 name (to_contains (uses_in source in_space) name m) h there.1 (in_one _ fault found)
+  lack in_space name false true m h a = λ fault found. let present = somewhere source (said source name) a in wrong_kind in_space present.0 name (to_contains (uses_in source in_space) name m) h present.1 (in_one _ fault found)
   lack in_space name false false m h a = λ fault found. unknown in_space name (to_contains (uses_in source in_space) name m) (nowhere source (said source name) a) (in_one _ fault found)
 
   use_sound : (in_space : Space) (name : Span) → In (uses_in source in_space) name → AreWrong (use_faults source in_space name)

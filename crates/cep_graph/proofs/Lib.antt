@@ -1,12 +1,5 @@
-mod Rows
-mod Oldest
 mod Tracing
 mod Taken
 mod Made
-mod Starts
 mod Trailing
-mod Graphed
-mod Sorted
-mod Typed
 mod OneGraph
-mod Counted

@@ -17,12 +17,11 @@ use Rattle.cep_cause.specs.Touches.{Touch}
 use Rattle.cep_graph.specs.declared.trace.Trace.{Trace}
 use Rattle.cep_graph.specs.Queues.{Queues, queue_of, Changes, GetsId}
 use Rattle.cep_graph.specs.Traces.{tokens_of, IsTrace, AreTraced, IsTaking, AddsNumbers, HasTaken, TakesFor}
-use Rattle.cep_graph.proofs.Rows.{itself}
-use Rattle.cep_graph.proofs.Oldest.{filter_cases, number_itself, same_if, staying_alike, has_append, number_of, one_token, IsOldest, oldest_first}
+use Rattle.cep_graph.proofs.Made.{itself, filter_cases, number_itself, same_if, staying_alike, has_append, number_of, one_token, IsOldest, oldest_first}
 use Rattle.cep_graph.proofs.Tracing.{zip_more, passed_trace, used_trace, rests_none, rests_used, rests_removed}
 pub use Rattle.cep_base.proofs.Drops.{drop_at as drop_next}
-pub use Rattle.cep_cause.proofs.Passing.{picks_present}
-use Rattle.cep_cause.proofs.Passing.{removed_used}
+pub use Rattle.cep_cause.proofs.Tokened.{picks_present}
+use Rattle.cep_cause.proofs.Tokened.{removed_used}
 
 -- a linear token that is picked was not used
 picks_apart : (signature : Signature) (values : List Tree) (present used : List Token) (premises : List PremiseTree) (tokens : List Token) (token : Token) → ArePicks signature values present used premises tokens

@@ -1,25 +1,64 @@
--- One step more.
-use Rattle.std.proofs.Common.{◌≡◌, ◌↔◌, ◌⊎◌, inl, inr, ⊎_elim, ℕ, ◌+◌, ◌<◌, ◌≤◌, Bool, true, false, cond, not, List, [], ◌∷◌, ◌++◌, length, refl, sym, ap, ◌∙◌, subst, arith, append-nil, Contains}
-use Rattle.std.specs.Prelude.{Result, Ok, Err, IfOk}
-use Rattle.std.specs.List.{AllByRecursion, filter}
-use Rattle.std.specs.List.Sorted.{IsStrictlyIncreasing}
+-- One step more, and the numbers on which it rests.
+use Rattle.std.proofs.Common.{◌≡◌, ◌↔◌, ℕ, ◌<◌, true, List, [], sym, ap, ◌∙◌, subst, arith, Contains, ◌⊎◌, inl, inr, ⊎_elim, ◌+◌, ◌≤◌, Bool, false, cond, not, ◌∷◌, ◌++◌, length, refl, append-nil, map, Some}
+use Rattle.std.specs.Prelude.{nat_lt, ◌==◌, Result, Ok, Err, IfOk, slice_get}
+use Rattle.std.specs.List.{AllByRecursion, filter, dedup}
+use Rattle.std.specs.List.Retain.{IsFiltered, DiffersFromLast}
+use Rattle.std.specs.List.Sorted.{IsStrictlyIncreasing, IsPermutation, IsSorted}
+use Rattle.std.specs.Ordering.{nat_cmp}
+use Rattle.std.proofs.lemmas.Bool.Decides.{nat_tests}
+use Rattle.std.proofs.lemmas.List.Filters.{dedup_is}
+use Rattle.std.proofs.lemmas.List.Kept.{IsStrictlyIncreasing-filter, Contains-dedup_nat, Contains-from_dedup}
+use Rattle.std.proofs.lemmas.List.Sorted.{IsPermutation-sym, Contains-permutation}
+use Rattle.std.proofs.lemmas.Map.Keys.{IsStrictlyIncreasing-dedup}
+use Rattle.cep_base.proofs.Elements.{all_of, contains_none, contains_first, contains_behind, contains_either, all_at, both_all}
+use Rattle.cep_graph.proofs.Made.{filter_cases, filter_there}
+use lib.Dec.{eqb}
 use Rattle.std.proofs.lemmas.Bool.{false≢true}
-use Rattle.cep_base.proofs.Elements.{contains_none, contains_first, contains_behind, contains_either, all_at, all_of, both_all}
-use Rattle.cep_term.specs.Tree.{Tree, AtomTree}
+use Rattle.cep_term.specs.Tree.{Tree, AtomTree, IsGroundAtom, IsAtomInRange}
 use Rattle.cep_term.specs.Multiset.{gained}
 use Rattle.cep_rule.specs.declared.signature.Signature.{Signature}
 use Rattle.cep_rule.specs.declared.rule.Rule.{Rule}
-use Rattle.cep_rule.specs.Typing.{is_fact}
-use Rattle.cep_rule.specs.Instances.{full_instances}
+use Rattle.cep_rule.specs.Typing.{is_fact, IsTyped, AreValues}
+use Rattle.cep_rule.specs.Instances.{full_instances, full_instance}
 use Rattle.cep_cause.specs.Tokens.{Token, numbered, token_state, has_number, staying, picked_to_go}
 use Rattle.cep_cause.specs.Touches.{Touch, present_after}
 use Rattle.cep_graph.specs.Queues.{Queues}
 use Rattle.cep_graph.specs.Traces.{NumbersIncrease, AreTraced, IsTaking, TakesFor, AreFresh, MakesFor}
 use Rattle.cep_graph.specs.Trails.{IsTrail, IsTouchBy, HasTouched, TouchesBy}
-use Rattle.cep_graph.proofs.Oldest.{filter_cases}
 use Rattle.cep_graph.proofs.Tracing.{has_more}
 use Rattle.cep_graph.proofs.Taken.{picks_present}
-use Rattle.cep_cause.proofs.Passing.{made_later}
+use Rattle.cep_cause.proofs.Tokened.{made_later}
+use Rattle.cep_base.proofs.Lists.{holds_at_mapped, all_from_places, all_weaker}
+use Rattle.cep_rule.specs.Patterns.{PremiseTree}
+use Rattle.cep_rule.specs.Program.{IsTypedRule}
+use Rattle.cep_rule.specs.TypeLaws.{TypeLaws}
+
+-- Numbers that are sorted, each once, and without 0.
+
+positive : (n : ℕ) → nat_lt 0 n ≡ true → 0 < n
+positive n is = grind (arith, nat_tests)
+
+is_positive : (n : ℕ) → 0 < n → nat_lt 0 n ≡ true
+is_positive n is = grind (arith, nat_tests)
+
+module _ (old sorted lone after : List ℕ) (moved : IsPermutation old sorted) (in_order : IsSorted nat_cmp sorted) (filtered : IsFiltered (DiffersFromLast eqb) [] sorted lone) (is : after ≡ filter (λ n. nat_lt 0 n) lone) where
+  once : lone ≡ dedup eqb sorted
+  once = dedup_is eqb sorted lone filtered
+
+  pub after_increasing : IsStrictlyIncreasing after
+  after_increasing = subst IsStrictlyIncreasing (sym is) (IsStrictlyIncreasing-filter (λ n. nat_lt 0 n) lone (subst IsStrictlyIncreasing (sym once) (IsStrictlyIncreasing-dedup sorted in_order)))
+
+  pub after_counted : AllByRecursion (λ n. 0 < n) after
+  after_counted = subst (AllByRecursion (λ n. 0 < n)) (sym is) (all_of (λ n. 0 < n) (filter (λ n. nat_lt 0 n) lone) (λ n there. positive n (filter_cases (λ n. nat_lt 0 n) lone n there).1))
+
+  pub after_same : (n : ℕ) → 0 < n → (Contains after n ↔ Contains old n)
+  after_same n some = (
+    λ there. Contains-permutation sorted old n (IsPermutation-sym old sorted moved)
+        (Contains-from_dedup eqb sorted n (subst (λ ns. Contains ns n) once (filter_cases (λ n. nat_lt 0 n) lone n (subst (λ ns. Contains ns n) is there)).0)),
+    λ there. subst (λ ns. Contains ns n) (sym is) (filter_there (λ n. nat_lt 0 n) lone n (subst (λ ns. Contains ns n) (sym once) (Contains-dedup_nat sorted n (Contains-permutation old sorted n moved there))) (is_positive n some)),
+  )
+
+-- One step more.
 
 all_stay : (present : List Token) → staying [] present ≡ present
 all_stay [] = refl
@@ -123,3 +162,23 @@ pub touch_ends : {E : Type 0} (signature : Signature) (values : List Tree) (rule
 touch_ends signature values rule number old mid new numbers (Ok after) takes makes increasing counted same =
     λ done present next touch last trail is. touched signature values rule done present next touch old trail is number mid new numbers after last takes makes increasing counted same
 touch_ends signature values rule number old mid new numbers (Err e) takes makes increasing counted same = tt
+
+-- The atoms of a well-typed rule, with values of the right types.
+
+module _ (laws : TypeLaws) (signature : Signature) (rule : Rule) (values : List Tree) (typed : IsTypedRule signature rule) (are : AreValues signature.cons rule.kinds values) where
+  in_range : (a : AtomTree) → IsTyped signature rule.kinds a → IsAtomInRange (length values) a
+  in_range a is = subst (λ n. IsAtomInRange n a) (sym (laws.as_many signature.cons rule.kinds values are)) (laws.in_range signature rule.kinds a is)
+
+  pub premises_in_range : AllByRecursion (λ (premise : PremiseTree). IsAtomInRange (length values) premise.atom) rule.premises
+  premises_in_range = all_from_places (λ (premise : PremiseTree). IsAtomInRange (length values) premise.atom) rule.premises
+      (λ n premise at. in_range premise.atom (holds_at_mapped (IsTyped signature rule.kinds) (λ (p : PremiseTree). p.atom) rule.premises n premise typed.premises at))
+
+  pub premises_ground : AllByRecursion (λ (premise : PremiseTree). IsGroundAtom (full_instance values premise.atom)) rule.premises
+  premises_ground = all_from_places (λ (premise : PremiseTree). IsGroundAtom (full_instance values premise.atom)) rule.premises
+      (λ n premise at. laws.ground signature rule.kinds values premise.atom are (holds_at_mapped (IsTyped signature rule.kinds) (λ (p : PremiseTree). p.atom) rule.premises n premise typed.premises at))
+
+  pub right_in_range : AllByRecursion (λ (a : AtomTree). IsAtomInRange (length values) a) rule.right
+  right_in_range = all_weaker (IsTyped signature rule.kinds) (λ (a : AtomTree). IsAtomInRange (length values) a) rule.right in_range typed.right
+
+  pub right_ground : AllByRecursion (λ (a : AtomTree). IsGroundAtom (full_instance values a)) rule.right
+  right_ground = all_weaker (IsTyped signature rule.kinds) (λ (a : AtomTree). IsGroundAtom (full_instance values a)) rule.right (λ a is. laws.ground signature rule.kinds values a are is) typed.right

@@ -33,8 +33,8 @@ use Rattle.cep_infer.specs.Meaning.{signature_of, stage_by, names_of, kinds_of, 
 use Rattle.cep_ground.specs.Texts.{IsClean}
 use Rattle.cep_base.proofs.Elements.{contains_first, contains_behind}
 use Rattle.cep_ground.proofs.Known.{state_atom_here}
-use Rattle.cep_ground.proofs.RuleScopes.{AtomsMade, left_here, right_here, clause_here, atom_of_tokens}
-use Rattle.cep_ground.proofs.StartState.{StartLaws}
+use Rattle.cep_ground.proofs.VariableKinds.{AtomsMade, left_here, right_here, clause_here, atom_of_tokens}
+use Rattle.cep_ground.proofs.Programs.{StartLaws}
 
 -- terms, so many in front and so many after
 record AreSplit (front back : ℕ) (ts : Trees) : Type 0 where

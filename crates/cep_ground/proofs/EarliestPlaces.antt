@@ -1,15 +1,189 @@
--- The earliest of some places, told by bytes and by lines.
-use Rattle.std.proofs.Common.{◌≡◌, ⊎_elim, ℕ, ◌≤◌, Bool, true, false, List, [], ◌∷◌, ◌++◌, take, refl, sym, subst, arith, Contains, ltb}
-use Rattle.std.proofs.lemmas.Bool.{ltb-true, ltb-false}
-use Rattle.std.specs.Prelude.{Some}
-use Rattle.std.specs.List.{flat_map}
+-- The order of places in a text, the earliest of some, and the first places of variables.
+use Rattle.std.proofs.Common.{◌≡◌, ◌≢◌, ⊎_elim, ℕ, suc, ◌+◌, ◌-◌, ◌<◌, ◌≤◌, Bool, List, [], ◌∷◌, ◌++◌, length, take, refl, sym, ap, subst, ◌∙◌, arith, append_assoc, length-append, true, false, Contains, ltb, ◌⊎◌, inl, inr, zero, if◌then◌else◌, map}
+use Rattle.std.proofs.lemmas.List.Sums.{sum_by-append, sum_by-cons}
+use Rattle.std.proofs.lemmas.Bool.{eqb-false, ltb-true, ltb-false}
+use Rattle.std.specs.Prelude.{◌==◌, sum_by, cond, Option, Some, slice_get}
 use Rattle.cep_base.specs.declared.place.Pos.{Pos}
-use Rattle.cep_lex.specs.Places.{IsPlaceAfter}
-use Rattle.cep_infer.specs.Places.{ArePlaces, ArePlaceLists}
+use Rattle.cep_base.specs.Spelling.{IsUnbroken}
+use Rattle.cep_lex.specs.Places.{IsPlaceAfter, IsEnded}
+use Rattle.cep_ground.specs.Refusals.{StandsBefore}
+use Rattle.std.proofs.lemmas.List.{append-nil}
+use Rattle.std.proofs.lemmas.Grind.{flat_map-append}
+use Rattle.std.specs.List.{flat_map, list_any}
 use Rattle.cep_ground.specs.Earliest.{IsEarliest}
-use Rattle.cep_base.proofs.Elements.{contains_none, contains_first, contains_behind, contains_cases}
-use Rattle.cep_ground.proofs.PlaceOrder.{places_rise}
-use Rattle.cep_ground.proofs.EarliestLaws.{one_place}
+use Rattle.cep_base.proofs.Elements.{contains_none, contains_first, contains_cases, contains_left, contains_right, contains_either, contains_behind, contains_map, contains_at}
+pub use Rattle.cep_base.proofs.Lists.{take_next}
+use Rattle.cep_infer.specs.Places.{ArePlaces, ArePlaceLists}
+use Rattle.std.specs.Str.{bytes_eq}
+use Rattle.cep_source.specs.Variables.{Occurrence, firsts_beside}
+use Rattle.cep_types.specs.Heads.{variable_of}
+use Rattle.cep_ground.proofs.GroupLaws.{place, position_there, place_within}
+use Rattle.cep_ground.proofs.Wanted.{same_bytes, bytes_same, is_any}
+
+-- Places further on in a text have a greater line, or the same one and no lesser column.
+
+-- a line feed is no part of bytes that none breaks
+break_in : (front : List ℕ) → IsUnbroken (front ++ 10 ∷ []) → ⊥
+break_in [] all = all.0 refl
+break_in (byte ∷ front) all = break_in front all.1
+
+unbroken_front : (one other : List ℕ) → IsUnbroken (one ++ other) → IsUnbroken one
+unbroken_front [] other all = tt
+unbroken_front (byte ∷ one) other all = (all.0, unbroken_front one other all.1)
+
+unbroken_both : (one other : List ℕ) → IsUnbroken one → IsUnbroken other → IsUnbroken (one ++ other)
+unbroken_both [] other here there = there
+unbroken_both (byte ∷ one) other here there = (here.0, unbroken_both one other here.1 there)
+
+-- what ends with a line feed ends with one after each front of it
+last_break : (line : List ℕ) (byte : ℕ) (rest front : List ℕ) → line ++ byte ∷ rest ≡ front ++ 10 ∷ [] → IsUnbroken (byte ∷ rest) → ⊥
+last_break [] byte rest front e all = break_in front (subst IsUnbroken e all)
+last_break (a ∷ line) byte rest [] e all = nothing_left line byte rest (let tail : line ++ byte ∷ rest ≡ [] = cc in tail)
+  where
+    nothing_left : (line : List ℕ) (byte : ℕ) (rest : List ℕ) → line ++ byte ∷ rest ≡ [] → ⊥
+    nothing_left [] byte rest e = absurd cc
+    nothing_left (a ∷ line) byte rest e = absurd cc
+last_break (a ∷ line) byte rest (f ∷ front) e all = last_break line byte rest front (let tail : line ++ byte ∷ rest ≡ front ++ 10 ∷ [] = cc in tail) all
+
+-- whole lines are cut in one way from the bytes of the last one
+data Cut (lines bytes lines' bytes' : List ℕ) : Type 0 where
+  same : bytes ≡ bytes' → Cut lines bytes lines' bytes'
+  longer : (byte : ℕ) (rest : List ℕ) → lines' ≡ lines ++ byte ∷ rest → bytes ≡ byte ∷ (rest ++ bytes') → Cut lines bytes lines' bytes'
+  shorter : (byte : ℕ) (rest : List ℕ) → lines ≡ lines' ++ byte ∷ rest → bytes' ≡ byte ∷ (rest ++ bytes) → Cut lines bytes lines' bytes'
+
+cut_behind : (a : ℕ) (lines bytes lines' bytes' : List ℕ) → Cut lines bytes lines' bytes' → Cut (a ∷ lines) bytes (a ∷ lines') bytes'
+cut_behind a lines bytes lines' bytes' (same e) = same e
+cut_behind a lines bytes lines' bytes' (longer byte rest e f) = longer byte rest (ap (λ xs. a ∷ xs) e) f
+cut_behind a lines bytes lines' bytes' (shorter byte rest e f) = shorter byte rest (ap (λ xs. a ∷ xs) e) f
+
+cut : (lines bytes lines' bytes' : List ℕ) → lines ++ bytes ≡ lines' ++ bytes' → Cut lines bytes lines' bytes'
+cut [] bytes [] bytes' e = same e
+cut [] bytes (b ∷ lines') bytes' e = longer b lines' refl e
+cut (a ∷ lines) bytes [] bytes' e = shorter a lines refl (sym e)
+cut (a ∷ lines) bytes (b ∷ lines') bytes' e =
+    let first : a ≡ b = cc in
+    let rest : lines ++ bytes ≡ lines' ++ bytes' = cc in
+    subst (λ c. Cut (a ∷ lines) bytes (c ∷ lines') bytes') first (cut_behind a lines bytes lines' bytes' (cut lines bytes lines' bytes' rest))
+
+never_ended : (line : List ℕ) (byte : ℕ) (rest : List ℕ) → IsEnded (line ++ byte ∷ rest) → IsUnbroken (byte ∷ rest) → ⊥
+never_ended line byte rest ended all = ⊎_elim (λ (none : line ++ byte ∷ rest ≡ []). nothing line none) (λ some. last_break line byte rest some.0 some.1 all) ended
+  where
+    nothing : (line : List ℕ) → line ++ byte ∷ rest ≡ [] → ⊥
+    nothing [] e = absurd cc
+    nothing (a ∷ line) e = absurd cc
+
+one_cut : (lines bytes lines' bytes' : List ℕ) → lines ++ bytes ≡ lines' ++ bytes' → IsEnded lines → IsEnded lines' → IsUnbroken bytes → IsUnbroken bytes' → bytes ≡ bytes'
+one_cut lines bytes lines' bytes' e ended ended' all all' = grind (arith, cut, never_ended, unbroken_front)
+
+-- whether a byte is one, as a number
+abbrev one_break : ℕ → ℕ
+one_break byte = cond (byte == 10) 1 0
+
+not_break : (byte : ℕ) (b : Bool) → (byte == 10) ≡ b → one_break byte ≡ 0 → byte ≢ 10
+not_break byte b e zero_ = grind (arith, one_break, eqb-false)
+
+no_breaks : (bytes : List ℕ) → sum_by one_break bytes ≡ 0 → IsUnbroken bytes
+no_breaks [] none = tt
+no_breaks (byte ∷ bytes) none = (not_break byte (byte == 10) refl (omega (arith, none, (sum_by-cons one_break byte bytes))), no_breaks bytes (omega (arith, none, (sum_by-cons one_break byte bytes))))
+
+-- a place with more bytes before it does not stand before one with fewer
+pub later_place : (before mid : List ℕ) (pos pos' : Pos) → IsPlaceAfter before pos → IsPlaceAfter (before ++ mid) pos' → ¬ (StandsBefore pos' pos)
+later_place before mid pos pos' is is' earlier =
+    let lines = sum_by-append one_break before mid in
+    let one = is.line in
+    let other = is'.line in
+    ⊎_elim
+    (λ (less : pos'.line < pos.line). omega (arith, lines, one, other, less))
+    (λ same.
+    let none : sum_by one_break mid ≡ 0 = let s = same.0 in omega (arith, lines, one, other, s) in
+    let whole : is'.lines ++ is'.bytes ≡ is.lines ++ (is.bytes ++ mid) = sym is'.cut ∙ ap (λ b. b ++ mid) is.cut ∙ append_assoc is.lines is.bytes mid in
+    let bytes = one_cut is'.lines is'.bytes is.lines (is.bytes ++ mid) whole is'.ended is.ended is'.unbroken (unbroken_both is.bytes mid is.unbroken (no_breaks mid none)) in
+    let size = ap length bytes ∙ length-append is.bytes mid in
+    let col = is.col in
+    let col' = is'.col in
+    let less = same.1 in
+    omega (arith, size, col, col', less))
+    earlier
+
+take_nothing : (n : ℕ) → take {A = ℕ} n [] ≡ []
+take_nothing n = grind arith
+
+take_more : (at further : ℕ) (text : List ℕ) → (mid : List ℕ) × (take (at + further) text ≡ take at text ++ mid)
+take_more (suc at) further (byte ∷ text) =
+    let rest = take_more at further text in
+    let e : suc at + further ≡ suc (at + further) = omega arith in
+    (rest.0, ap (λ n. take n (byte ∷ text)) e ∙ ap (λ bytes. byte ∷ bytes) rest.1)
+take_more at further text = grind (arith, take_nothing)
+
+-- so places stand in the order of their bytes
+pub places_rise : (text : List ℕ) (at at' : ℕ) (pos pos' : Pos) → at ≤ at' → IsPlaceAfter (take at text) pos → IsPlaceAfter (take at' text) pos' → ¬ (StandsBefore pos' pos)
+places_rise text at at' pos pos' less is is' = later_place (take at text) (take_more at (at' - at) text).0 pos pos' is (subst (λ bytes. IsPlaceAfter bytes pos') (ap (λ n. take n text) (omega (arith, less)) ∙ (take_more at (at' - at) text).1) is')
+
+-- The earlier of two earliest places is the earliest of both.
+
+-- how two numbers compare
+data Lines (a b : ℕ) : Type 0 where
+  below : a < b → Lines a b
+  level : a ≡ b → Lines a b
+  above : b < a → Lines a b
+
+next_lines : (a b : ℕ) → Lines a b → Lines (suc a) (suc b)
+next_lines a b given = grind arith
+
+lines : (a b : ℕ) → Lines a b
+lines (suc a) (suc b) = next_lines a b (lines a b)
+lines a b = grind arith
+
+chain_line : (one other next : Pos) → ¬ (StandsBefore other one) → ¬ (StandsBefore next other) → Lines other.line one.line → next.line < one.line → ⊥
+chain_line one other next no_ no' given less = grind arith
+
+chain_level : (one other next : Pos) → ¬ (StandsBefore other one) → ¬ (StandsBefore next other) → other.line ≡ one.line → Lines other.col one.col → next.line ≡ one.line → next.col < one.col → ⊥
+chain_level one other next no_ no' h given alike less = grind arith
+
+chain_col : (one other next : Pos) → ¬ (StandsBefore other one) → ¬ (StandsBefore next other) → Lines other.line one.line → next.line ≡ one.line → next.col < one.col → ⊥
+chain_col one other next no_ no' given alike less = grind (arith, chain_level, lines)
+
+-- a place that does not stand before one does not stand before an earlier one
+pub chain : (one other next : Pos) → ¬ (StandsBefore other one) → ¬ (StandsBefore next other) → ¬ (StandsBefore next one)
+chain one other next no_ no' before = grind (arith, chain_line, lines, chain_col, next.line, one.line, other.line)
+
+same_pos : (one other : Pos) → one.line ≡ other.line → one.col ≡ other.col → one ≡ other
+same_pos one other line col = λ i. record { line = line i; col = col i }
+
+-- places of which neither stands before the other are one
+pub one_place : (one other : Pos) → ¬ (StandsBefore one other) → ¬ (StandsBefore other one) → one ≡ other
+one_place one other no_ no' = grind (arith, lines, same_pos, one.line, other.line, one.col, other.col)
+
+-- of two places one does not stand before the other
+not_both : (one other : Pos) → StandsBefore one other → ¬ (StandsBefore other one)
+not_both one other before after = grind (arith, one.line, other.line)
+
+pub earlier_other : (pos next : Pos) → StandsBefore next pos → (xs ys : List Pos) → IsEarliest xs (Some pos) → IsEarliest ys (Some next) → IsEarliest (xs ++ ys) (Some next)
+earlier_other pos next before xs ys one other = (
+  contains_right xs ys next other.0,
+  λ q there. ⊎_elim (λ left. chain next pos q (not_both next pos before) (one.1 q left)) (λ right. other.1 q right) (contains_either xs ys q there),
+)
+
+pub earlier_one : (pos next : Pos) → ¬ (StandsBefore next pos) → (xs ys : List Pos) → IsEarliest xs (Some pos) → IsEarliest ys (Some next) → IsEarliest (xs ++ ys) (Some pos)
+earlier_one pos next later xs ys one other = (
+  contains_left xs ys pos one.0,
+  λ q there. ⊎_elim (λ left. one.1 q left) (λ right. chain pos next q later (other.1 q right)) (contains_either xs ys q there),
+)
+
+pub one_alone : (answer : Option Pos) (xs ys : List Pos) → IsEarliest xs answer → ys ≡ [] → IsEarliest (xs ++ ys) answer
+one_alone answer xs ys one none = subst (λ zs. IsEarliest zs answer) (sym (ap (λ zs. xs ++ zs) none ∙ append-nil xs)) one
+
+pub other_alone : (answer : Option Pos) (xs ys : List Pos) → xs ≡ [] → IsEarliest ys answer → IsEarliest (xs ++ ys) answer
+other_alone answer xs ys none other = subst (λ zs. IsEarliest zs answer) (sym (ap (λ zs. zs ++ ys) none)) other
+
+pub single : (pos : Pos) → IsEarliest (pos ∷ []) (Some pos)
+single pos = grind (arith, contains_first, contains_none, contains_cases, pos.line)
+
+-- and the places of one list more
+pub flat_next : (lists : List (List Pos)) (i : ℕ) (places : List Pos) → slice_get lists i ≡ Some places → flat_map (λ ps. ps) (take (i + 1) lists) ≡ flat_map (λ ps. ps) (take i lists) ++ places
+flat_next lists i places found = grind (arith, take_next lists i places found, flat_map-append, append-nil places)
+
+-- The earliest of some places, told by bytes and by lines.
 
 -- places in bytes and by lines, all lists joined
 pub both_places : (text : List ℕ) (ats : List ℕ) (ps : List Pos) (more_ : List ℕ) (others : List Pos) → ArePlaces text ats ps → ArePlaces text more_ others → ArePlaces text (ats ++ more_) (ps ++ others)
@@ -29,7 +203,7 @@ pub record AtPos (text : List ℕ) (ps : List Pos) (at : ℕ) : Type 0 where
 pub at_pos : (text : List ℕ) (ats : List ℕ) (ps : List Pos) (at : ℕ) → ArePlaces text ats ps → Contains ats at → AtPos text ps at
 at_pos text (a ∷ ats) (p ∷ ps) at are there =
     ⊎_elim
-    (λ (same : a ≡ at). record { pos = p; there = contains_first p ps; is = subst (λ n. IsPlaceAfter (take n text) p) same are.0 })
+    (λ (alike : a ≡ at). record { pos = p; there = contains_first p ps; is = subst (λ n. IsPlaceAfter (take n text) p) alike are.0 })
     (λ later. let rest = at_pos text ats ps at are.1 later in record { pos = rest.pos; there = contains_behind p ps rest.pos rest.there; is = rest.is })
     (contains_cases a ats at there)
 at_pos text ats ps at are there = grind arith
@@ -42,7 +216,7 @@ record AtByte (text : List ℕ) (ats : List ℕ) (pos : Pos) : Type 0 where
 at_byte : (text : List ℕ) (ats : List ℕ) (ps : List Pos) (pos : Pos) → ArePlaces text ats ps → Contains ps pos → AtByte text ats pos
 at_byte text (a ∷ ats) (p ∷ ps) pos are there =
     ⊎_elim
-    (λ (same : p ≡ pos). record { at = a; there = contains_first a ats; is = subst (λ q. IsPlaceAfter (take a text) q) same are.0 })
+    (λ (alike : p ≡ pos). record { at = a; there = contains_first a ats; is = subst (λ q. IsPlaceAfter (take a text) q) alike are.0 })
     (λ later. let rest = at_byte text ats ps pos are.1 later in record { at = rest.at; there = contains_behind a ats rest.at rest.there; is = rest.is })
     (contains_cases p ps pos there)
 at_byte text ats ps pos are there = grind (arith, contains_none)
@@ -56,13 +230,13 @@ record HasLeast (ns : List ℕ) : Type 0 where
 least_by : (n : ℕ) (ns : List ℕ) (rest : HasLeast ns) → (b : Bool) → ltb rest.least n ≡ b → HasLeast (n ∷ ns)
 least_by n ns rest true e =
     let less = ltb-true rest.least n e in
-    record { least = rest.least; there = contains_behind n ns rest.least rest.there; first = λ m there. ⊎_elim (λ (same : n ≡ m). omega (arith, less, same)) (λ later. rest.first m later) (contains_cases n ns m there) }
+    record { least = rest.least; there = contains_behind n ns rest.least rest.there; first = λ m there. ⊎_elim (λ (alike : n ≡ m). omega (arith, less, alike)) (λ later. rest.first m later) (contains_cases n ns m there) }
 least_by n ns rest false e =
     let more_ = ltb-false rest.least n e in
-    record { least = n; there = contains_first n ns; first = λ m there. ⊎_elim (λ (same : n ≡ m). omega (arith, same)) (λ later. let l = rest.first m later in omega (arith, l, more_)) (contains_cases n ns m there) }
+    record { least = n; there = contains_first n ns; first = λ m there. ⊎_elim (λ (alike : n ≡ m). omega (arith, alike)) (λ later. let l = rest.first m later in omega (arith, l, more_)) (contains_cases n ns m there) }
 
 has_least : (n : ℕ) (ns : List ℕ) → HasLeast (n ∷ ns)
-has_least n [] = record { least = n; there = contains_first n []; first = λ m there. ⊎_elim (λ (same : n ≡ m). omega (arith, same)) (λ later. absurd (contains_none m later)) (contains_cases n [] m there) }
+has_least n [] = record { least = n; there = contains_first n []; first = λ m there. ⊎_elim (λ (alike : n ≡ m). omega (arith, alike)) (λ later. absurd (contains_none m later)) (contains_cases n [] m there) }
 has_least n (m ∷ ns) = let rest = has_least m ns in least_by n (m ∷ ns) rest (ltb rest.least n) refl
 
 -- The earliest place by lines is the one of the least in bytes.
@@ -80,10 +254,90 @@ least_at text ats (n ∷ ns) is ps are pos earliest =
     let own = at_pos text ats ps least.least are there in
     let at = at_byte text ats ps pos are earliest.0 in
     let before : least.least ≤ at.at = least.first at.at (subst (λ ms. Contains ms at.at) is at.there) in
-    let same = one_place own.pos pos (earliest.1 own.pos own.there) (places_rise text least.least at.at own.pos pos before own.is at.is) in
+    let alike = one_place own.pos pos (earliest.1 own.pos own.there) (places_rise text least.least at.at own.pos pos before own.is at.is) in
     record {
       at = least.least;
       there = there;
       least = λ m inside. least.first m (subst (λ ms. Contains ms m) is inside);
-      pos_is = subst (λ q. IsPlaceAfter (take least.least text) q) same own.is;
+      pos_is = subst (λ q. IsPlaceAfter (take least.least text) q) alike own.is;
     }
+
+-- The places of variables among the first occurrences.
+
+-- the names of occurrences
+abbrev pub names_among : List Occurrence → List (List ℕ)
+names_among occurrences = map (λ (o : Occurrence). o.name) occurrences
+
+-- where all names were seen, none occurs first
+none_first : (seen : List (List ℕ)) (ys : List Occurrence) → ((y : Occurrence) → Contains ys y → Contains seen y.name) → firsts_beside seen ys ≡ []
+none_first seen [] all = refl
+none_first seen (y ∷ ys) all = let yes = is_any seen y.name (all y (contains_first y ys)) in rw (yes, none_first seen ys (λ z there. all z (contains_behind y ys z there)))
+
+append_by : (b : Bool) (seen : List (List ℕ)) (x : Occurrence) (xs ys : List Occurrence)
+    → ((y : Occurrence) → Contains ys y → Contains seen y.name ⊎ Contains (names_among (if b then firsts_beside seen xs else x ∷ firsts_beside (x.name ∷ seen) xs)) y.name)
+    → (((y : Occurrence) → Contains ys y → Contains seen y.name ⊎ Contains (names_among (firsts_beside seen xs)) y.name) → firsts_beside seen (xs ++ ys) ≡ firsts_beside seen xs)
+    → (((y : Occurrence) → Contains ys y → Contains (x.name ∷ seen) y.name ⊎ Contains (names_among (firsts_beside (x.name ∷ seen) xs)) y.name) → firsts_beside (x.name ∷ seen) (xs ++ ys) ≡ firsts_beside (x.name ∷ seen) xs)
+    → (if b then firsts_beside seen (xs ++ ys) else x ∷ firsts_beside (x.name ∷ seen) (xs ++ ys)) ≡ (if b then firsts_beside seen xs else x ∷ firsts_beside (x.name ∷ seen) xs)
+append_by true seen x xs ys all old new = old all
+append_by false seen x xs ys all old new =
+    ap (λ os. x ∷ os) (new (λ y there.
+    ⊎_elim
+    (λ seen_. inl (contains_behind x.name seen y.name seen_))
+    (λ first. ⊎_elim
+    (λ (alike : x.name ≡ y.name). inl (subst (Contains (x.name ∷ seen)) alike (contains_first x.name seen)))
+    (λ later. inr later)
+    (contains_cases x.name (names_among (firsts_beside (x.name ∷ seen) xs)) y.name first))
+    (all y there)))
+
+-- where all further names occur before, the first occurrences stay
+pub firsts_append : (seen : List (List ℕ)) (xs ys : List Occurrence) → ((y : Occurrence) → Contains ys y → Contains seen y.name ⊎ Contains (names_among (firsts_beside seen xs)) y.name) → firsts_beside seen (xs ++ ys) ≡ firsts_beside seen xs
+firsts_append seen [] ys all = none_first seen ys (λ y there. ⊎_elim (λ seen_. seen_) (λ never. absurd (contains_none y.name never)) (all y there))
+firsts_append seen (x ∷ xs) ys all = rw (append_by (list_any (λ name. bytes_eq name x.name) seen) seen x xs ys all (λ old. firsts_append seen xs ys old) (λ new. firsts_append (x.name ∷ seen) xs ys new))
+
+-- A variable has its own number, and was not seen before.
+pub record HasPlace (seen : List (List ℕ)) (firsts_ : List Occurrence) (v : ℕ) (o : Occurrence) : Type 0 where
+  pub number : place (λ other. bytes_eq other o.name) (names_among firsts_) ≡ v
+  pub unseen : ¬ (Contains seen o.name)
+
+differ_by : (xs ys : List ℕ) → (xs ≡ ys → ⊥) → (b : Bool) → bytes_eq xs ys ≡ b → b ≡ false
+differ_by xs ys differ b e = grind (arith, same_bytes)
+
+place_by : (b : Bool) (seen : List (List ℕ)) (x : Occurrence) (xs : List Occurrence) (v : ℕ) (o : Occurrence) → list_any (λ name. bytes_eq name x.name) seen ≡ b
+    → slice_get (if b then firsts_beside seen xs else x ∷ firsts_beside (x.name ∷ seen) xs) v ≡ Some o
+    → (slice_get (firsts_beside seen xs) v ≡ Some o → HasPlace seen (firsts_beside seen xs) v o)
+    → ((w : ℕ) → slice_get (firsts_beside (x.name ∷ seen) xs) w ≡ Some o → HasPlace (x.name ∷ seen) (firsts_beside (x.name ∷ seen) xs) w o)
+    → HasPlace seen (if b then firsts_beside seen xs else x ∷ firsts_beside (x.name ∷ seen) xs) v o
+place_by true seen x xs v o is found old new = old found
+place_by false seen x xs zero o is found old new =
+    let alike : x ≡ o = cc in
+    subst (λ (p : Occurrence). HasPlace seen (x ∷ firsts_beside (x.name ∷ seen) xs) 0 p) alike
+    (record {
+      number = ap (λ b. cond b 0 (1 + place (λ other. bytes_eq other x.name) (names_among (firsts_beside (x.name ∷ seen) xs)))) (bytes_same x.name);
+      unseen = λ there. seen_absurd (is_any seen x.name there);
+    })
+  where
+    seen_absurd : list_any (λ name. bytes_eq name x.name) seen ≡ true → ⊥
+    seen_absurd seen_it = absurd cc
+place_by false seen x xs (suc v) o is found old new =
+    let rest = new v found in
+    let apart : bytes_eq x.name o.name ≡ false = differ_by x.name o.name (λ alike. rest.unseen (subst (Contains (x.name ∷ seen)) alike (contains_first x.name seen))) (bytes_eq x.name o.name) refl in
+    let one : 1 + v ≡ suc v = omega arith in
+    record {
+      number = ap (λ b. cond b 0 (1 + place (λ other. bytes_eq other o.name) (names_among (firsts_beside (x.name ∷ seen) xs)))) apart ∙ ap (λ n. 1 + n) rest.number ∙ one;
+      unseen = λ there. rest.unseen (contains_behind x.name seen o.name there);
+    }
+
+pub first_place : (seen : List (List ℕ)) (xs : List Occurrence) (v : ℕ) (o : Occurrence) → slice_get (firsts_beside seen xs) v ≡ Some o → HasPlace seen (firsts_beside seen xs) v o
+first_place seen [] v o found = absurd cc
+first_place seen (x ∷ xs) v o found =
+    place_by (list_any (λ name. bytes_eq name x.name) seen) seen x xs v o refl found
+    (λ old. first_place seen xs v o old) (λ w new. first_place (x.name ∷ seen) xs w o new)
+
+-- so its name has its number
+pub variable_at : (xs : List Occurrence) (v : ℕ) (o : Occurrence) → slice_get (firsts_beside [] xs) v ≡ Some o → variable_of (names_among (firsts_beside [] xs)) o.name ≡ v
+variable_at xs v o found =
+    position_there (λ other. bytes_eq other o.name) (names_among (firsts_beside [] xs))
+    (within (contains_map (λ (p : Occurrence). p.name) (firsts_beside [] xs) o (contains_at (firsts_beside [] xs) v o found))) ∙ ((first_place [] xs v o found).number)
+  where
+    within : Contains (names_among (firsts_beside [] xs)) o.name → place (λ other. bytes_eq other o.name) (names_among (firsts_beside [] xs)) < length (names_among (firsts_beside [] xs))
+    within there = place_within (λ other. bytes_eq other o.name) (names_among (firsts_beside [] xs)) (is_any (names_among (firsts_beside [] xs)) o.name there)

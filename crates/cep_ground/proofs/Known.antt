@@ -19,7 +19,7 @@ use Rattle.cep_faults.specs.Misnamed.{Misnamed}
 use Rattle.cep_refusal.specs.First.{wrong}
 use Rattle.cep_faults.specs.Misnamed.Misnamed.{unknown, wrong_kind, wrong_arity, wrong_term_arity}
 use Rattle.cep_base.proofs.Elements.{contains_first, contains_left, contains_right, contains_map, contains_flat}
-use Rattle.cep_ground.proofs.Finds.{any_found}
+use Rattle.cep_ground.proofs.NameLaws.{any_found}
 
 -- the names of the source are in order
 abbrev pub AreNamesClean : Source → Type 0

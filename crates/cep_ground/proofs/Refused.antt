@@ -1,39 +1,102 @@
--- For which fault a text is refused.
-use Rattle.std.proofs.Common.{◌≡◌, ◌⊎◌, inl, inr, ℕ, ◌<◌, ◌≤◌, List, [], length, refl, sym, ap, subst, ◌∙◌, arith, Contains}
-use Rattle.std.proofs.lemmas.Bool.{ltb-true, ltb-false}
-use Rattle.std.specs.Prelude.{Result, Ok, Err, Some, slice_get}
+-- A text with which nothing is wrong spells a program, and any other is refused for its first fault.
+use Rattle.std.proofs.Common.{◌≡◌, ⊎_elim, ℕ, ◌≤◌, List, [], ◌∷◌, length, refl, sym, subst, Contains, ◌⊎◌, inl, inr, ◌<◌, ap, ◌∙◌, arith, Bool, true, false, IsTrue}
+use Rattle.std.specs.Prelude.{Result, Ok, Err, Some, slice_get, ◌↔◌}
 use Rattle.std.specs.List.{AllByRecursion}
-use Rattle.cep_base.proofs.Lists.{holds_at}
-use Rattle.cep_rule.specs.Groundness.{IsUngroundedAt, IsGrounded}
-use Rattle.cep_lex.specs.declared.token.Token.{Token}
+use Rattle.std.proofs.lemmas.Bool.{cases_lt, ltb-true, ltb-false}
+use Rattle.cep_base.proofs.Elements.{contains_first, all_of, all_at}
+use Rattle.cep_base.proofs.Lists.{all_from_places, holds_at}
 use Rattle.cep_base.specs.declared.limits.TheConstants.{MOST_TEXT}
 use Rattle.cep_lex.specs.declared.fault.LexFault.{LexFault}
 use Rattle.cep_lex.specs.declared.fault.LexFault.TheVariants as lex
-use Rattle.cep_lex.specs.Cuts.{AreTokens, IsBadByte, IsNameLong, IsLexed}
+use Rattle.cep_lex.specs.declared.token.Token.{Token}
+use Rattle.cep_lex.specs.Cuts.{AreTokens, IsLexed, IsBadByte, IsNameLong}
 use Rattle.cep_parse.specs.declared.fault.ParseFault.{ParseFault}
 use Rattle.cep_parse.specs.declared.fault.ParseFault.TheVariants as parse
 use Rattle.cep_parse.specs.declared.raw.RawItem.{RawItem}
-use Rattle.cep_parse.specs.Symbols.{symbols_of}
-use Rattle.cep_parse.specs.Files.{IsUnexpected, IsNested, IsParsed}
-use Rattle.cep_rule.specs.declared.parts.Parts.{Parts}
+use Rattle.cep_parse.specs.Files.{IsParsed, IsUnexpected, IsNested}
 use Rattle.cep_refusal.specs.declared.fault.Fault.{Fault}
-use Rattle.cep_refusal.specs.declared.reason.Reason.{Reason}
 use Rattle.cep_refusal.specs.declared.reason.Reason.TheVariants.{BadByte, NameLong, Unexpected, Nested, Unbound, Ungrounded, TooLong}
+use Rattle.cep_refusal.specs.First.{wrong, IsFirst, IsNoLater, IsToldFirst}
+use Rattle.cep_rule.specs.declared.rule.Rule.{Rule}
+use Rattle.cep_rule.specs.declared.parts.Parts.{Parts}
+use Rattle.cep_rule.specs.Groundness.{IsGrounded, IsUngroundedAt}
 use Rattle.cep_source.specs.Items.{Source, RuleItem, rules_of}
 use Rattle.cep_source.specs.Variables.{Occurrence}
-use Rattle.cep_refusal.specs.First.{IsFirst, IsNoLater, wrong, IsToldFirst}
+use Rattle.cep_infer.specs.Shapes.{IsSource}
+use Rattle.cep_infer.specs.Meaning.{AreParts, IsRuleBy}
+use Rattle.cep_infer.specs.Places.{backs_at, unbound_of}
+use Rattle.cep_ground.specs.Texts.{IsClean, IsBound, Spells}
+use Rattle.cep_ground.specs.Refusals.{IsWrong, IsUngroundedIn, IsRefusedFor}
+use Rattle.cep_ground.specs.Refusals.IsWrong.{too_long, bad_byte, name_long, unexpected, nested, misnamed, mistyped, unbound, ungrounded}
+use Rattle.cep_ground.proofs.Ungrounded.{placed}
+use Rattle.cep_parse.specs.Symbols.{symbols_of}
+use Rattle.cep_refusal.specs.declared.reason.Reason.{Reason}
 use Rattle.cep_faults.specs.Misnamed.{Misnamed}
 use Rattle.cep_types.specs.Sites.{Mistyped}
-use Rattle.cep_infer.specs.Shapes.{IsSource}
-use Rattle.cep_infer.specs.Meaning.{AreParts}
-use Rattle.cep_infer.specs.Places.{unbound_of}
-use Rattle.cep_ground.specs.Texts.{IsClean, IsBound}
-use Rattle.cep_ground.specs.Refusals.{IsUngroundedIn, IsWrong, IsRefusedFor}
 use Rattle.cep_refusal.specs.Reasons.{phase}
-use Rattle.cep_ground.specs.Refusals.IsWrong.{too_long, bad_byte, name_long, unexpected, nested, misnamed, mistyped, unbound, ungrounded}
-use Rattle.cep_ground.proofs.OneProgram.{LexedOnce, FileOnce, tokens_once, source_once}
-use Rattle.cep_base.proofs.Elements.{all_at}
-use Rattle.cep_ground.proofs.Once.{parts_once}
+use Rattle.cep_ground.proofs.OneAnswer.{LexedOnce, FileOnce, tokens_once, source_once, parts_once}
+use Rattle.cep_refusal.specs.declared.refusal.Refusal.{Refusal}
+use Rattle.cep_infer.specs.Resolved.{IsFirstFault, IsRefused}
+use Rattle.cep_refusal.specs.Told.{Tells}
+
+-- A text with which nothing is wrong spells a program.
+
+-- what the laws say of which this stands
+pub record Laws : Type 0 where
+  pub lexed : (text : List ℕ) → (answer : Result (List Token) LexFault) × IsLexed text answer
+  pub parsed : (text : List ℕ) (tokens : List Token) → (answer : Result (List RawItem) ParseFault) × IsParsed text tokens answer
+  pub declared : (source : Source) → IsClean source → (parts : Parts) × AreParts source parts
+  pub counted : (source : Source) → IsClean source → IsBound source → (item : RuleItem) (rule : Rule) → Contains (rules_of source) item → IsRuleBy source item rule → length rule.backs ≡ length (backs_at source item)
+
+module _ (laws : Laws) (text : List ℕ) (nothing : (fault : Fault) → ¬ (IsWrong text fault)) where
+  short : length text ≤ MOST_TEXT
+  short = ⊎_elim (λ long. absurd (nothing (wrong TooLong 0) (too_long long refl))) (λ within. within) (cases_lt MOST_TEXT (length text))
+
+  tokens_there : (answer : Result (List Token) LexFault) → IsLexed text answer → (tokens : List Token) × AreTokens text tokens
+  tokens_there (Ok tokens) is = (tokens, is)
+  tokens_there (Err (lex.BadByte at)) is = absurd (nothing (wrong BadByte at) (bad_byte at short is refl))
+  tokens_there (Err (lex.NameLong at)) is = absurd (nothing (wrong NameLong at) (name_long at short is refl))
+
+  source_there : (tokens : List Token) → AreTokens text tokens → (answer : Result (List RawItem) ParseFault) → IsParsed text tokens answer → (source : Source) × (source.text ≡ text) × IsSource source
+  source_there tokens are (Ok file) is = (record { text = text; file = file }, refl, record { tokens = tokens; lexed = are; parsed = is.0; shallow = is.1 })
+  source_there tokens are (Err (parse.Unexpected at)) is = absurd (nothing (wrong Unexpected at) (unexpected tokens at short are is refl))
+  source_there tokens are (Err (parse.Nested at)) is = absurd (nothing (wrong Nested at) (nested tokens at short are is refl))
+
+  module _ (source : Source) (text_is : source.text ≡ text) (is_source : IsSource source) where
+    in_order : IsClean source
+    in_order = record {
+      is_source = is_source;
+      short = subst (λ t. length t ≤ MOST_TEXT) (sym text_is) short;
+      names = λ fault bad. nothing fault (misnamed source text_is short is_source bad);
+      types = λ fault bad. nothing fault (mistyped source text_is short is_source bad);
+    }
+
+    none_unbound : (rule : RuleItem) → Contains (rules_of source) rule → (occurrences : List Occurrence) → unbound_of source rule ≡ occurrences → occurrences ≡ []
+    none_unbound rule there [] is = refl
+    none_unbound rule there (o ∷ os) is =
+        absurd (nothing (wrong Unbound o.at.from) (unbound source rule o text_is short is_source there (subst (λ all. Contains all o) (sym is) (contains_first o os)) refl))
+
+    bound : IsBound source
+    bound = all_of (λ rule. unbound_of source rule ≡ []) (rules_of source) (λ rule there. none_unbound rule there (unbound_of source rule) refl)
+
+    grounded : (parts : Parts) → AreParts source parts → AllByRecursion (IsGrounded parts.clauses) parts.rules
+    grounded parts are = all_from_places (IsGrounded parts.clauses) parts.rules (λ n rule is i calls.
+        let at = placed source parts are (laws.counted source in_order bound) n rule is i calls in
+        nothing (wrong Ungrounded at.0) (ungrounded source at.0 text_is in_order at.1 refl))
+
+    spelled_from : (parts : Parts) × Spells text parts
+    spelled_from = let parts = laws.declared source in_order in
+        (parts.0, record { source = source; text_is = text_is; clean = in_order; declared = parts.1; bound = bound; grounded = grounded parts.0 parts.1 })
+
+  pub spelled : (parts : Parts) × Spells text parts
+  spelled =
+      let lexed = laws.lexed text in
+      let tokens = tokens_there lexed.0 lexed.1 in
+      let parsed = laws.parsed text tokens.0 in
+      let source = source_there tokens.0 tokens.1 parsed.0 parsed.1 in
+      spelled_from source.0 source.1 source.2
+
+-- For which fault a text is refused.
 
 -- what the law of parsed tokens says
 abbrev pub ParsedOnce : Type 0
@@ -205,8 +268,8 @@ module _ (lexed : LexedOnce) (text : List ℕ) where
           first other (ungrounded source' at text_is' clean bad' is) = absurd (clean.types fault (subst (λ s. Mistyped s fault) (sym (same_source source' text_is' clean.is_source)) bad.holds))
 
       -- where each variable is bound, none is unbound
-      none_unbound : (other : Source) (rule : RuleItem) (o : Occurrence) → other ≡ source → IsBound source → Contains (rules_of other) rule → Contains (unbound_of other rule) o → ⊥
-      none_unbound other rule o same bound there inside = grind (arith, all_at (λ (item : RuleItem). unbound_of source item ≡ []) (rules_of source) rule bound (subst (λ s. Contains (rules_of s) rule) same there))
+      never_unbound : (other : Source) (rule : RuleItem) (o : Occurrence) → other ≡ source → IsBound source → Contains (rules_of other) rule → Contains (unbound_of other rule) o → ⊥
+      never_unbound other rule o same bound there inside = grind (arith, all_at (λ (item : RuleItem). unbound_of source item ≡ []) (rules_of source) rule bound (subst (λ s. Contains (rules_of s) rule) same there))
 
       no_later : (reason : Reason) (at at' : ℕ) → at ≤ at' → IsNoLater (wrong reason at) (wrong reason at')
       no_later reason at at' less = grind (arith, le_cases)
@@ -249,7 +312,7 @@ module _ (lexed : LexedOnce) (text : List ℕ) where
           first other (nested tokens at' short' are' bad' is) = absurd (no_nested tokens at' are' bad')
           first other (misnamed source' text_is' short' is_source' bad') = absurd (clean.names other (subst (λ s. Misnamed s other) (same_source source' text_is' is_source') bad'))
           first other (mistyped source' text_is' short' is_source' bad') = absurd (clean.types other (subst (λ s. Mistyped s other) (same_source source' text_is' is_source') bad'))
-          first other (unbound source' rule' o' text_is' short' is_source' there' inside' is) = absurd (none_unbound source' rule' o' (same_source source' text_is' is_source') bound there' inside')
+          first other (unbound source' rule' o' text_is' short' is_source' there' inside' is) = absurd (never_unbound source' rule' o' (same_source source' text_is' is_source') bound there' inside')
           first other (ungrounded source' at' text_is' clean' bad' is) =
               let less = least at' (subst (λ s. IsUngroundedIn s at') (same_source source' text_is' clean'.is_source) bad') in
               subst (IsToldFirst (wrong Ungrounded at)) (sym is) (inr (refl, no_later Ungrounded at at' less))
@@ -263,5 +326,24 @@ module _ (lexed : LexedOnce) (text : List ℕ) where
       nothing_wrong clean bound parts are grounded fault (nested tokens at short' are' bad' is) = no_nested tokens at are' bad'
       nothing_wrong clean bound parts are grounded fault (misnamed source' text_is' short' is_source' bad') = clean.names fault (subst (λ s. Misnamed s fault) (same_source source' text_is' is_source') bad')
       nothing_wrong clean bound parts are grounded fault (mistyped source' text_is' short' is_source' bad') = clean.types fault (subst (λ s. Mistyped s fault) (same_source source' text_is' is_source') bad')
-      nothing_wrong clean bound parts are grounded fault (unbound source' rule o text_is' short' is_source' there inside is) = none_unbound source' rule o (same_source source' text_is' is_source') bound there inside
+      nothing_wrong clean bound parts are grounded fault (unbound source' rule o text_is' short' is_source' there inside is) = never_unbound source' rule o (same_source source' text_is' is_source') bound there inside
       nothing_wrong clean bound parts are grounded fault (ungrounded source' at text_is' clean' bad' is) = none_ungrounded parts are grounded source' (same_source source' text_is' clean'.is_source) at bad'
+
+-- What is told of a text whose names or types are wrong.
+
+module _ (lexed : LexedOnce) (parsed : ParsedOnce) (file_once : FileOnce) (source : Source) (short : length source.text ≤ MOST_TEXT) (is_source : IsSource source) where
+  -- the first fault of names, or else of types, is the one for which a text is refused
+  refused_first : (fault : Fault) → IsFirstFault source fault → IsRefusedFor source.text fault
+  refused_first fault (inl names) = refused_misnamed lexed source.text parsed file_once source refl short is_source fault names
+  refused_first fault (inr (named, types)) = refused_mistyped lexed source.text parsed file_once source refl short is_source fault named types
+
+  pub refused_draft : (refusal : Refusal) → IsRefused source refusal → (fault : Fault) × IsRefusedFor source.text fault × Tells source.text fault refusal
+  refused_draft refusal refused = (refused.fault, refused_first refused.fault refused.first, refused.told)
+
+-- What tests answer.
+
+pub yes_of : (b : Bool) (P : Type 0) → (IsTrue b ↔ P) → b ≡ true → P
+yes_of b P both is = both.0 is
+
+pub no_of : (b : Bool) (P : Type 0) → (IsTrue b ↔ P) → b ≡ false → ¬ P
+no_of b P both is holds = let yes_ : b ≡ true = both.1 holds in absurd cc

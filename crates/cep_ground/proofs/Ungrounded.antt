@@ -1,13 +1,22 @@
--- The first backward premise that calls a bad pair, by the marks of the premises and the places that a draft keeps.
-use Rattle.std.proofs.Common.{◌≡◌, ℕ, zero, suc, ◌<◌, ◌≤◌, Bool, true, false, List, [], ◌∷◌, length, map, take, refl, ap, subst, ◌∙◌, arith, Contains}
-use Rattle.std.specs.Prelude.{Some, None, slice_get}
-use Rattle.std.specs.List.{AllByRecursion, AllZip}
-use Rattle.std.proofs.lemmas.Option.{slice_get_within}
-use Rattle.cep_base.specs.declared.place.Pos.{Pos}
+-- The backward premises that call bad pairs, by their marks and by the places that a draft keeps.
+use Rattle.std.proofs.Common.{◌≡◌, ◌⊎◌, inl, inr, ⊎_elim, ℕ, zero, suc, ◌+◌, ◌-◌, ◌≤◌, Bool, true, false, List, [], ◌∷◌, ◌++◌, length, get_or, take, drop, min, refl, ap, ◌∙◌, arith, Contains, append_assoc, add-one, map, sym, subst, ◌<◌}
+use Rattle.std.specs.Prelude.{Some, slice_get, None}
+use Rattle.std.proofs.lemmas.Bool.{ltb-true, ltb-false}
+use Rattle.std.proofs.lemmas.List.{append-nil}
+use Rattle.std.proofs.Math.Seq.{take-length}
 use Rattle.cep_base.proofs.Lists.{none_some, some_same, get_mapped, all_from_places}
-use Rattle.cep_base.proofs.Members.{in_got, to_contains}
-use Rattle.cep_base.proofs.Elements.{contains_none}
+use Rattle.cep_base.proofs.Elements.{contains_none, contains_behind, contains_cases, contains_left, contains_right, contains_either, contains_first, contains_flat, flat_cases, map_cases, contains_map, all_of}
+use Rattle.cep_ground.specs.Earliest.{marked_among, all_marked, IsEarliest}
+use Rattle.std.specs.List.{flat_map, AllByRecursion, AllZip}
+use Rattle.cep_base.specs.declared.place.Pos.{Pos}
 use Rattle.cep_lex.specs.Places.{IsPlaceAfter}
+use Rattle.cep_source.specs.Items.{Source, RuleItem, rules_of}
+use Rattle.cep_source.specs.Variables.{Occurrence}
+use Rattle.cep_infer.specs.Places.{unbound_of, unbound_at, ArePlaceLists, backs_at, ArePlaces}
+use Rattle.cep_ground.specs.Texts.{IsBound}
+use Rattle.cep_ground.proofs.EarliestPlaces.{joined, at_pos, least_at, both_places}
+use Rattle.std.proofs.lemmas.Option.{slice_get_within}
+use Rattle.cep_base.proofs.Members.{in_got, to_contains}
 use Rattle.cep_rule.specs.declared.rule.Rule.{Rule}
 use Rattle.cep_rule.specs.declared.parts.Parts.{Parts}
 use Rattle.cep_rule.specs.Patterns.{ClauseTree}
@@ -15,14 +24,129 @@ use Rattle.cep_term.specs.Tree.{AtomTree}
 use Rattle.cep_rule.specs.Binding.{needed_of}
 use Rattle.cep_rule.specs.Groundness.{Known, nothing, known_after, known_after_all, CallsAt, IsBad, IsUngroundedAt, IsGrounded}
 use Rattle.cep_modes.specs.Grounding.{AreMarks, AreAllMarks}
-use Rattle.cep_source.specs.Items.{Source, RuleItem, rules_of}
 use Rattle.cep_infer.specs.Meaning.{AreParts, IsRuleBy}
-use Rattle.cep_infer.specs.Places.{backs_at, ArePlaces, ArePlaceLists}
-use Rattle.cep_ground.specs.Earliest.{IsEarliest, marked_among, all_marked}
 use Rattle.cep_ground.specs.Refusals.{IsUngroundedIn}
-use Rattle.cep_ground.proofs.EarliestPlaces.{both_places, at_pos, least_at}
-use Rattle.cep_ground.proofs.Marked.{all_marked_cases, all_marked_there}
-use Rattle.cep_ground.proofs.Once.{parts_once}
+use Rattle.cep_ground.proofs.OneAnswer.{parts_once}
+
+-- Items of lists that are marked.
+
+-- the first item, if it is marked, and the others that are
+pub marked_split : {A : Type 0} (x : A) (xs : List A) (mark : Bool) (marks : List Bool) → marked_among (x ∷ xs) (mark ∷ marks) ≡ marked_among (x ∷ []) (mark ∷ []) ++ marked_among xs marks
+marked_split x xs mark marks = grind arith
+
+-- the marked items of one list more
+marked_suc : {A : Type 0} (rest : List (List A)) (lists : List (List Bool)) (i : ℕ) (xs : List A) (marks : List Bool) → slice_get rest i ≡ Some xs → slice_get lists i ≡ Some marks → all_marked (take (suc i) rest) (take (suc i) lists) ≡ all_marked (take i rest) (take i lists) ++ marked_among xs marks
+marked_suc (ys ∷ rest) (ms ∷ lists) (suc i) xs marks is is' = grind (arith, append_assoc, marked_suc rest lists i xs marks is is')
+marked_suc rest lists i xs marks is is' = grind (arith, none_some, some_same, append-nil)
+
+pub marked_next : {A : Type 0} (rest : List (List A)) (lists : List (List Bool)) (i : ℕ) (xs : List A) (marks : List Bool) → slice_get rest i ≡ Some xs → slice_get lists i ≡ Some marks → all_marked (take (i + 1) rest) (take (i + 1) lists) ≡ all_marked (take i rest) (take i lists) ++ marked_among xs marks
+marked_next rest lists i xs marks is is' = ap (λ n. all_marked (take n rest) (take n lists)) (add-one i) ∙ marked_suc rest lists i xs marks is is'
+
+-- as many of each as there are of the fewer are all that count
+pub marked_whole : {A : Type 0} (n : ℕ) (rest : List (List A)) (lists : List (List Bool)) → (length rest ≤ n) ⊎ (length lists ≤ n) → all_marked (take n rest) (take n lists) ≡ all_marked rest lists
+marked_whole zero (xs ∷ rest) (ms ∷ lists) few = absurd (⊎_elim (λ (h : length (xs ∷ rest) ≤ 0). omega (arith, h)) (λ (h : length (ms ∷ lists) ≤ 0). omega (arith, h)) few)
+marked_whole (suc n) (xs ∷ rest) (ms ∷ lists) few = rw (marked_whole n rest lists (⊎_elim (λ (h : length (xs ∷ rest) ≤ suc n). inl (omega (arith, h))) (λ (h : length (ms ∷ lists) ≤ suc n). inr (omega (arith, h))) few))
+marked_whole n rest lists few = refl
+
+-- The item stands at a place of a list, and is marked there.
+pub record IsMarkedIn {A : Type 0} (xs : List A) (marks : List Bool) (x : A) : Type 0 where
+  pub place : ℕ
+  pub there : slice_get xs place ≡ Some x
+  pub marked : slice_get marks place ≡ Some true
+
+pub marked_cases : {A : Type 0} (xs : List A) (marks : List Bool) (x : A) → Contains (marked_among xs marks) x → IsMarkedIn xs marks x
+marked_cases (y ∷ xs) (true ∷ marks) x there = ⊎_elim
+    (λ (same : y ≡ x). record { place = 0; there = ap Some same; marked = refl })
+    (λ later. let rest = marked_cases xs marks x later in record { place = suc rest.place; there = rest.there; marked = rest.marked })
+    (contains_cases y (marked_among xs marks) x there)
+marked_cases (y ∷ xs) (false ∷ marks) x there = let rest = marked_cases xs marks x there in record { place = suc rest.place; there = rest.there; marked = rest.marked }
+marked_cases xs marks x there = absurd (contains_none x there)
+
+pub marked_there : {A : Type 0} (xs : List A) (marks : List Bool) (x : A) (place : ℕ) → slice_get xs place ≡ Some x → slice_get marks place ≡ Some true → Contains (marked_among xs marks) x
+marked_there (y ∷ xs) (true ∷ marks) x (suc place) is is' = contains_behind y (marked_among xs marks) x (marked_there xs marks x place is is')
+marked_there (y ∷ xs) (false ∷ marks) x (suc place) is is' = marked_there xs marks x place is is'
+marked_there xs marks x place is is' = grind (arith, none_some, some_same)
+
+-- The item stands in some list, and is marked there.
+pub record IsMarkedAmong {A : Type 0} (rest : List (List A)) (lists : List (List Bool)) (x : A) : Type 0 where
+  pub number : ℕ
+  pub xs : List A
+  pub marks : List Bool
+  pub list_is : slice_get rest number ≡ Some xs
+  pub marks_are : slice_get lists number ≡ Some marks
+  pub inside : IsMarkedIn xs marks x
+
+pub all_marked_cases : {A : Type 0} (rest : List (List A)) (lists : List (List Bool)) (x : A) → Contains (all_marked rest lists) x → IsMarkedAmong rest lists x
+all_marked_cases (xs ∷ rest) (marks ∷ lists) x there = ⊎_elim
+    (λ here. record { number = 0; xs = xs; marks = marks; list_is = refl; marks_are = refl; inside = marked_cases xs marks x here })
+    (λ later. let found = all_marked_cases rest lists x later in record { number = suc found.number; xs = found.xs; marks = found.marks; list_is = found.list_is; marks_are = found.marks_are; inside = found.inside })
+    (contains_either (marked_among xs marks) (all_marked rest lists) x there)
+all_marked_cases rest lists x there = absurd (contains_none x there)
+
+pub all_marked_there : {A : Type 0} (rest : List (List A)) (lists : List (List Bool)) (x : A) (number : ℕ) (xs : List A) (marks : List Bool) (place : ℕ) → slice_get rest number ≡ Some xs → slice_get lists number ≡ Some marks → slice_get xs place ≡ Some x → slice_get marks place ≡ Some true → Contains (all_marked rest lists) x
+all_marked_there (ys ∷ rest) (ms ∷ lists) x (suc number) xs marks place is is' at at' = grind (arith, contains_right, all_marked_there rest lists x number xs marks place is is')
+all_marked_there rest lists x number xs marks place is is' at at' = grind (arith, none_some, some_same, contains_left, marked_there)
+
+take_others : {A : Type 0} (x : A) (xs : List A) → take (length (x ∷ xs) - 1) xs ≡ xs
+take_others x xs = ap (λ n. take n xs) (let e : length (x ∷ xs) - 1 ≡ length xs = omega arith in e) ∙ take-length xs
+
+-- the first item, if it is marked, and the others that are, as a slice has them
+pub marked_step : {A : Type 0} (xs : List A) (marks : List Bool) (x : A) (mark : Bool) → 1 ≤ length xs → 1 ≤ length marks
+    → marked_among (get_or xs 0 x ∷ []) (get_or marks 0 mark ∷ []) ++ marked_among (take (length xs - 1) (drop 1 xs)) (take (length marks - 1) (drop 1 marks)) ≡ marked_among xs marks
+marked_step (y ∷ xs) (m ∷ marks) x mark some some' = grind (arith, take_others y xs, take_others m marks, marked_split y xs m marks)
+marked_step xs marks x mark some some' = grind arith
+
+-- what is no more than the lesser of two is no more than one of them
+pub lesser_within : (a b n : ℕ) → min a b ≤ n → (a ≤ n) ⊎ (b ≤ n)
+lesser_within a b n most = grind (arith, ltb-true, ltb-false)
+
+-- The first variable of a right side that is not bound, by the places that a draft keeps.
+
+-- The first unbound occurrence, and where it stands.
+pub record IsFirstUnbound (source : Source) (pos : Pos) : Type 0 where
+  pub rule : RuleItem
+  pub occurrence : Occurrence
+  pub there : Contains (rules_of source) rule
+  pub inside : Contains (unbound_of source rule) occurrence
+  pub least : (rule' : RuleItem) (o' : Occurrence) → Contains (rules_of source) rule' → Contains (unbound_of source rule') o' → occurrence.at.from ≤ o'.at.from
+  pub pos_is : IsPlaceAfter (take occurrence.at.from source.text) pos
+
+module _ (source : Source) where
+  at_there : (rule : RuleItem) (o : Occurrence) → Contains (rules_of source) rule → Contains (unbound_of source rule) o → Contains (flat_map (λ (xs : List ℕ). xs) (map (unbound_at source) (rules_of source))) o.at.from
+  at_there rule o there inside =
+      contains_flat (λ (xs : List ℕ). xs) (map (unbound_at source) (rules_of source)) (unbound_at source rule) o.at.from
+      (contains_map (unbound_at source) (rules_of source) rule there)
+      (contains_map (λ (o : Occurrence). o.at.from) (unbound_of source rule) o inside)
+
+  pub first_unbound : (lists : List (List Pos)) → ArePlaceLists source.text (map (unbound_at source) (rules_of source)) lists → (pos : Pos) → IsEarliest (flat_map (λ ps. ps) lists) (Some pos) → IsFirstUnbound source pos
+  first_unbound lists are pos earliest =
+      let all = flat_map (λ (xs : List ℕ). xs) (map (unbound_at source) (rules_of source)) in
+      let least = least_at source.text all all refl (flat_map (λ ps. ps) lists) (joined source.text (map (unbound_at source) (rules_of source)) lists are) pos earliest in
+      let list = flat_cases (λ (xs : List ℕ). xs) (map (unbound_at source) (rules_of source)) least.at least.there in
+      let rule = map_cases (unbound_at source) (rules_of source) list.from list.there in
+      let inside : Contains (unbound_at source rule.from) least.at = subst (λ xs. Contains xs least.at) (sym rule.same) list.inside in
+      let o = map_cases (λ (o : Occurrence). o.at.from) (unbound_of source rule.from) least.at inside in
+      record {
+        rule = rule.from;
+        occurrence = o.from;
+        there = rule.there;
+        inside = o.there;
+        least = λ rule' o' there' inside'. let l = least.least o'.at.from (at_there rule' o' there' inside') in let e = o.same in omega (arith, l, e);
+        pos_is = subst (λ k. IsPlaceAfter (take k source.text) pos) (sym o.same) least.pos_is;
+      }
+
+  no_occurrence : (os : List Occurrence) → ((o : Occurrence) → Contains os o → ⊥) → os ≡ []
+  no_occurrence [] none = refl
+  no_occurrence (o ∷ os) none = absurd (none o (contains_first o os))
+
+  pub all_bound : (lists : List (List Pos)) → ArePlaceLists source.text (map (unbound_at source) (rules_of source)) lists → IsEarliest (flat_map (λ ps. ps) lists) None → IsBound source
+  all_bound lists are none =
+      all_of (λ (rule : RuleItem). unbound_of source rule ≡ []) (rules_of source)
+      (λ rule there. no_occurrence (unbound_of source rule) (λ o inside.
+      let own = at_pos source.text (flat_map (λ (xs : List ℕ). xs) (map (unbound_at source) (rules_of source))) (flat_map (λ ps. ps) lists) o.at.from (joined source.text (map (unbound_at source) (rules_of source)) lists are) (at_there rule o there inside) in
+      contains_none own.pos (subst (λ ps. Contains ps own.pos) none own.there)))
+
+-- The first backward premise that calls a bad pair, by the marks of the premises and the places that a draft keeps.
 
 -- places in bytes and by lines, those that are marked
 marked_places : (text : List ℕ) (ats : List ℕ) (ps : List Pos) (marks : List Bool) → ArePlaces text ats ps → ArePlaces text (marked_among ats marks) (marked_among ps marks)

@@ -1,11 +1,6 @@
-pub mod Filled
 pub mod Meeting
-pub mod FirstOccurrences
-pub mod Building
-pub mod RulesInTurn
 pub mod Placing
-pub mod Unbound
-pub mod GroundStates
+pub mod RulesInTurn
 pub mod Drafting
 pub mod Reordered
 pub mod HeldOnce

@@ -1,13 +1,68 @@
--- Gaps, one byte on, and what they are followed by.
-use Rattle.std.proofs.Common.{not, eqb, get_or, take, ◌≡◌, ◌≢◌, ℕ, ◌+◌, ◌<◌, ◌≤◌, Bool, true, false, IsTrue, List, [], ◌∷◌, ◌++◌, length, drop, refl, sym, ap, subst, ◌∙◌, inl, inr, arith, append_assoc, length-append, take-append-drop, length-take-le}
-use Rattle.std.proofs.lemmas.List.{drop_at, drop_more, take_more, take_all}
-use Rattle.std.proofs.lemmas.Bool.{eqb-true, eq-eqb, not-false, true≢false}
+-- Gaps, one byte on, with lines and columns.
+use Rattle.std.proofs.Common.{◌≡◌, ◌≢◌, ℕ, ◌+◌, ◌<◌, ◌==◌, cond, get_or, take, List, [], ◌∷◌, ◌++◌, length, refl, sym, ap, ◌∙◌, inl, inr, arith, append_assoc, append-nil, length-append, not, eqb, ◌≤◌, Bool, true, false, IsTrue, drop, subst, take-append-drop, length-take-le}
+use Rattle.std.specs.List.{count_by}
+use Rattle.std.proofs.lemmas.Bool.{eq-eqb, ne_eqb, eqb-true, not-false, true≢false}
+use Rattle.std.proofs.lemmas.List.{take_more, drop_at, drop_more, take_all}
+use Rattle.std.proofs.lemmas.List.Sums.{sum_by_push}
+use Rattle.cep_base.specs.declared.place.Pos.{Pos}
 use Rattle.cep_base.specs.Spelling.{IsUnbroken}
+use Rattle.cep_lex.specs.Places.{IsPlaceAfter}
 use Rattle.cep_lex.specs.Cuts.{is_separator, IsGap, IsLastGap}
 use Rattle.cep_lex.specs.Cuts.IsGap.{empty, separator, comment}
 use Rattle.cep_lex.specs.Fronts.{IsGapLength}
 use Rattle.cep_lex.specs.Fronts.IsGapLength.{all, before}
-use Rattle.cep_lex.proofs.PlaceLemmas.{unbroken_push}
+
+-- The line and the column, one byte on.
+
+-- one more byte that is no LF
+pub unbroken_push : (bytes : List ℕ) (byte : ℕ) → IsUnbroken bytes → byte ≢ 10 → IsUnbroken (bytes ++ byte ∷ [])
+unbroken_push [] byte unbroken no_break = (no_break, tt)
+unbroken_push (b ∷ bytes) byte unbroken no_break = (unbroken.0, unbroken_push bytes byte unbroken.1 no_break)
+
+-- the place of the first byte
+pub place_start : IsPlaceAfter [] (record { line = 1; col = 1 })
+place_start = record { lines = []; bytes = []; cut = refl; ended = inl refl; unbroken = tt; line = refl; col = refl }
+
+pub no_bytes : (earlier : List ℕ) (pos : Pos) → IsPlaceAfter earlier pos → IsPlaceAfter (earlier ++ []) pos
+no_bytes earlier pos place = rw (append-nil earlier) place
+
+abbrev breaks : List ℕ → ℕ
+breaks bytes = count_by (λ byte. byte == 10) bytes
+
+-- the place after a byte
+after_break : (earlier : List ℕ) (byte : ℕ) (pos : Pos) → byte ≡ 10 → IsPlaceAfter earlier pos → IsPlaceAfter (earlier ++ byte ∷ []) (record { line = pos.line + 1; col = 1 })
+after_break earlier byte pos is place = record {
+  lines = earlier ++ 10 ∷ [];
+  bytes = [];
+  cut = ap (λ b. earlier ++ b ∷ []) is ∙ sym (append-nil (earlier ++ 10 ∷ []));
+  ended = inr (earlier, refl);
+  unbroken = tt;
+  line = let more = sum_by_push (λ b. cond (b == 10) 1 0) earlier byte ∙ ap (λ b. breaks earlier + cond b 1 0) (eq-eqb byte 10 is) in omega (arith, place.line, more);
+  col = refl;
+}
+
+after_more : (earlier : List ℕ) (byte : ℕ) (pos : Pos) → byte ≢ 10 → IsPlaceAfter earlier pos → IsPlaceAfter (earlier ++ byte ∷ []) (record { line = pos.line; col = pos.col + 1 })
+after_more earlier byte pos is place = record {
+  lines = place.lines;
+  bytes = place.bytes ++ byte ∷ [];
+  cut = ap (λ b. b ++ byte ∷ []) place.cut ∙ append_assoc place.lines place.bytes (byte ∷ []);
+  ended = place.ended;
+  unbroken = unbroken_push place.bytes byte place.unbroken is;
+  line = let more = sum_by_push (λ b. cond (b == 10) 1 0) earlier byte ∙ ap (λ b. breaks earlier + cond b 1 0) (ne_eqb byte 10 is) in omega (arith, place.line, more);
+  col = let s = length-append place.bytes (byte ∷ []) in omega (arith, place.col);
+}
+
+module _ (earlier bytes : List ℕ) (i : ℕ) where
+  on : (pos : Pos) → i < length bytes → IsPlaceAfter ((earlier ++ take i bytes) ++ get_or bytes i 0 ∷ []) pos → IsPlaceAfter (earlier ++ take (i + 1) bytes) pos
+  on pos within place = rw (take_more bytes i 0 within, ← append_assoc earlier (take i bytes) (get_or bytes i 0 ∷ [])) place
+
+  pub place_break : (pos : Pos) → i < length bytes → get_or bytes i 0 ≡ 10 → IsPlaceAfter (earlier ++ take i bytes) pos → IsPlaceAfter (earlier ++ take (i + 1) bytes) (record { line = pos.line + 1; col = 1 })
+  place_break pos within is place = on _ within (after_break (earlier ++ take i bytes) _ pos is place)
+
+  pub place_more : (pos : Pos) → i < length bytes → get_or bytes i 0 ≢ 10 → IsPlaceAfter (earlier ++ take i bytes) pos → IsPlaceAfter (earlier ++ take (i + 1) bytes) (record { line = pos.line; col = pos.col + 1 })
+  place_more pos within is place = on _ within (after_more (earlier ++ take i bytes) _ pos is place)
+
+-- Gaps, one byte on, and what they are followed by.
 
 -- a gap and a comment that goes on
 pub record IsOpen (bytes : List ℕ) : Type 0 where

@@ -1,31 +1,214 @@
--- Each text has its tokens, or a first fault.
-use Rattle.std.proofs.Common.{◌≡◌, ◌≢◌, ◌⊎◌, ℕ, zero, suc, ◌+◌, ◌-◌, ◌<◌, ◌≤◌, ◌==◌, Bool, true, false, if◌then◌else◌, List, [], ◌∷◌, ◌++◌, length, take, drop, get_or, codes, refl, sym, ap, subst, ◌∙◌, inl, inr, ⊎_elim, arith, append_assoc, append-nil, length-append, length-drop, length-take-le}
-use Rattle.std.specs.Prelude.{Result, Ok, Err}
-use Rattle.std.specs.Char.{is_ascii_alphabetic, is_ascii_digit, is_ascii_lowercase, is_ascii_uppercase}
+-- The longest token at the start of bytes, and that each text has its tokens or a first fault.
+use Rattle.std.proofs.Common.{◌≡◌, ℕ, suc, ◌+◌, ◌≤◌, Bool, true, false, cond, List, [], ◌∷◌, ◌++◌, length, take, refl, arith, nat_le, ◌<◌, ◌==◌, codes, sym, ap, subst, ◌∙◌, ◌-◌, get_or, drop, length-take-le, take-append-drop, ◌≢◌, ◌⊎◌, zero, if◌then◌else◌, inl, inr, ⊎_elim, append_assoc, append-nil, length-append, length-drop}
 use Rattle.std.specs.List.{prefix_len}
-use Rattle.std.specs.Str.{bytes_eq}
-use Rattle.std.proofs.lemmas.Bool.{cases_lt, cases_eq, eqb-true, eq-eqb, true≢false}
-use Rattle.std.proofs.lemmas.List.{take_rest}
-use Rattle.std.proofs.lemmas.Slice.Eq.{bytes_eq-Decides}
+use Rattle.cep_lex.specs.Words.{Pass, Runs, SpellsToken, BeginsNoToken}
+use Rattle.std.specs.Char.{is_ascii_alphabetic, is_ascii_digit, is_ascii_lowercase, is_ascii_uppercase}
+use Rattle.std.proofs.lemmas.Bool.{or_left, or_right, or_from, and_left, and_parts, leb-true, lt-leb, eqb-true, cases_lt, cases_eq, eq-eqb, true≢false, and_right, false_from_ne_true}
 use Rattle.cep_base.specs.Spelling.{is_name_byte}
+use Rattle.cep_lex.specs.declared.token.TokenKind.{TokenKind}
+use Rattle.cep_lex.specs.declared.token.TokenKind.TheVariants.{Name, Variable, Blank, Number, Directive, Colon, Dot, Comma, Star, Dollar, Equals, Open, Close, OpenBrace, CloseBrace, Lolli, Back, KwType, KwPred, KwBwd, KwFact, KwStage, KwContext, KwQui}
+use Rattle.cep_lex.specs.declared.words.Class.{Class}
+use Rattle.cep_lex.specs.declared.words.Class.TheVariants.{Letter, Digit, Hash, Pair, Mark, Other}
+use Rattle.cep_lex.specs.Fronts.{class, IsFront, mark_class, BeginsWith, IsLetters, IsGapLength, IsShortLength, IsLongLength}
+use Rattle.std.proofs.lemmas.List.{take_rest}
+use Rattle.std.proofs.lemmas.List.Sums.{prefix_len-le-length}
+use Rattle.std.specs.Prelude.{Result, Ok, Err}
+use Rattle.std.specs.Str.{bytes_eq}
+use Rattle.std.proofs.lemmas.Slice.Eq.{bytes_eq-Decides}
 use Rattle.cep_base.specs.declared.limits.TheConstants.{MOST_NAME}
 use Rattle.cep_lex.specs.declared.fault.LexFault.{LexFault}
 use Rattle.cep_lex.specs.declared.fault.LexFault.TheVariants.{BadByte, NameLong}
 use Rattle.cep_lex.specs.declared.token.Token.{Token}
-use Rattle.cep_lex.specs.declared.token.TokenKind.{TokenKind}
-use Rattle.cep_lex.specs.declared.token.TokenKind.TheVariants.{Name, Variable, Number, Directive, Blank, Colon, Dot, Comma, Star, Dollar, Equals, Open, Close, OpenBrace, CloseBrace, Lolli, Back, KwType, KwPred, KwBwd, KwFact, KwStage, KwContext, KwQui}
-use Rattle.cep_lex.specs.declared.words.Class.{Class}
-use Rattle.cep_lex.specs.declared.words.Class.TheVariants.{Letter, Digit, Hash, Pair, Mark, Other}
-use Rattle.cep_lex.specs.Words.{SpellsToken, BeginsNoToken, Runs}
 use Rattle.cep_lex.specs.Cuts.{is_separator, IsGap, Cuts, IsLexed}
 use Rattle.cep_lex.specs.Cuts.IsGap.{empty}
-use Rattle.cep_lex.specs.Fronts.{mark_class, class, BeginsWith, IsLetters, IsFront, IsGapLength, IsShortLength, IsLongLength}
 use Rattle.cep_lex.specs.Fronts.IsGapLength.{all, before}
-use Rattle.cep_lex.proofs.Runs.{run_is_within}
-use Rattle.cep_lex.proofs.Shapes.{Follows, most_behind}
-use Rattle.cep_lex.proofs.FrontLemmas.{front_from, no_front, tail_is, run_within, run_word, run_front, mark_spelled}
 use Rattle.cep_lex.proofs.GapLemmas.{IsOpen, IsGapSoFar, gap_separator, gap_opened, open_more, open_closed, gap_ended}
 use Rattle.cep_lex.proofs.Steps.{end_here, gap_stops, bad_byte_here, long_name_here, token_here, token_ends, cut_next}
+
+-- Runs of bytes that pass a test.
+
+-- a run at the front is no longer than the longest one
+pub run_is_within : (p : ℕ → Bool) (run rest : List ℕ) → Pass p run → length run ≤ prefix_len p (run ++ rest)
+run_is_within p [] rest pass = omega arith
+run_is_within p (b ∷ run) rest pass = let more = run_is_within p run rest pass.1 in rw pass.0 (omega arith)
+
+-- one more byte, where it passes
+longest_run_from : (p : ℕ → Bool) (b : ℕ) (bytes : List ℕ) (passes : Bool) → p b ≡ passes → Pass p (take (prefix_len p bytes) bytes) → Pass p (take (cond passes (1 + prefix_len p bytes) 0) (b ∷ bytes))
+longest_run_from p b bytes true is more =
+    let e : 1 + prefix_len p bytes ≡ suc (prefix_len p bytes) = omega arith in rw e (is, more)
+longest_run_from p b bytes false is more = tt
+
+-- the longest run passes
+pub longest_run : (p : ℕ → Bool) (bytes : List ℕ) → Pass p (take (prefix_len p bytes) bytes)
+longest_run p [] = tt
+longest_run p (b ∷ bytes) = longest_run_from p b bytes (p b) refl (longest_run p bytes)
+
+-- The first byte of a token tells what may stand after it.
+
+-- what stands after the first byte of a token
+abbrev pub Follows : Class → List ℕ → Type 0
+Follows Letter run = Pass is_name_byte run
+Follows Digit run = Pass is_ascii_digit run
+Follows Hash run = Pass is_ascii_alphabetic run × (0 < length run)
+Follows (Pair kind second) run = run ≡ second ∷ []
+Follows (Mark kind) run = run ≡ []
+Follows Other run = ⊥
+
+-- a byte, and what stands after it in a token
+pub record IsShaped (word : List ℕ) : Type 0 where
+  pub byte : ℕ
+  pub run : List ℕ
+  pub is : word ≡ byte ∷ run
+  pub follows : Follows (class byte) run
+
+-- a digit is no letter
+no_letter : (byte : ℕ) → is_ascii_digit byte ≡ true → is_ascii_alphabetic byte ≡ false
+no_letter byte digit =
+    let below : byte ≤ 57 = leb-true byte 57 (and_parts (nat_le 48 byte) (nat_le byte 57) digit).1 in
+    or_from _ _ (and_left _ _ (lt-leb 65 byte (omega arith))) (and_left _ _ (lt-leb 97 byte (omega arith)))
+
+-- the class of a digit
+pub digit_class : (byte : ℕ) → is_ascii_digit byte ≡ true → class byte ≡ Digit
+digit_class byte digit = rw (no_letter byte digit, digit) refl
+
+-- so is a letter
+pub letter_class : (byte : ℕ) → is_ascii_alphabetic byte ≡ true → class byte ≡ Letter
+letter_class byte letter = rw letter refl
+
+-- and `#`
+pub hash_class : (byte : ℕ) → (byte == 35) ≡ true → class byte ≡ Hash
+hash_class byte hash = subst (λ b. class b ≡ Hash) (sym (eqb-true byte 35 hash)) refl
+
+-- a first byte of a class, and a run
+run_shaped : (first next : ℕ → Bool) (class' : Class) (word : List ℕ) → ((byte : ℕ) → first byte ≡ true → class byte ≡ class') → ((run : List ℕ) → (word ≡ [] → ⊥) → Pass next run → length run + 1 ≡ length word → Follows class' run) → Runs first next word → IsShaped word
+run_shaped first next class' [] is follows runs = absurd runs
+run_shaped first next class' (byte ∷ run) is follows runs = record { byte = byte; run = run; is = refl; follows = subst (λ c. Follows c run) (sym (is byte runs.0)) (follows run (λ e. cc) runs.1 (omega arith)) }
+
+-- each token has such a shape
+pub shaped : (kind : TokenKind) (word : List ℕ) → SpellsToken kind word → IsShaped word
+shaped Name word h = run_shaped is_ascii_lowercase is_name_byte Letter word (λ byte lower. letter_class byte (or_right _ _ lower)) (λ run some pass size. pass) h.0
+shaped Variable word h = run_shaped is_ascii_uppercase is_name_byte Letter word (λ byte upper. letter_class byte (or_left _ _ upper)) (λ run some pass size. pass) h
+shaped Number word h = run_shaped is_ascii_digit is_ascii_digit Digit word digit_class (λ run some pass size. pass) h
+shaped Directive word h = run_shaped (λ byte. byte == 35) is_ascii_alphabetic Hash word hash_class (λ run some pass size. (pass, omega (arith, h.1))) h.0
+shaped Blank word h = record { byte = 95; run = []; is = h; follows = refl }
+shaped Colon word h = record { byte = 58; run = []; is = h; follows = refl }
+shaped Dot word h = record { byte = 46; run = []; is = h; follows = refl }
+shaped Comma word h = record { byte = 44; run = []; is = h; follows = refl }
+shaped Star word h = record { byte = 42; run = []; is = h; follows = refl }
+shaped Dollar word h = record { byte = 36; run = []; is = h; follows = refl }
+shaped Equals word h = record { byte = 61; run = []; is = h; follows = refl }
+shaped Open word h = record { byte = 40; run = []; is = h; follows = refl }
+shaped Close word h = record { byte = 41; run = []; is = h; follows = refl }
+shaped OpenBrace word h = record { byte = 123; run = []; is = h; follows = refl }
+shaped CloseBrace word h = record { byte = 125; run = []; is = h; follows = refl }
+shaped Lolli word h = record { byte = 45; run = codes "o"; is = h; follows = refl }
+shaped Back word h = record { byte = 60; run = codes "-"; is = h; follows = refl }
+shaped KwType word h = record { byte = 116; run = codes "ype"; is = h; follows = (refl, (refl, (refl, tt))) }
+shaped KwPred word h = record { byte = 112; run = codes "red"; is = h; follows = (refl, (refl, (refl, tt))) }
+shaped KwBwd word h = record { byte = 98; run = codes "wd"; is = h; follows = (refl, (refl, tt)) }
+shaped KwFact word h = record { byte = 102; run = codes "act"; is = h; follows = (refl, (refl, (refl, tt))) }
+shaped KwStage word h = record { byte = 115; run = codes "tage"; is = h; follows = (refl, (refl, (refl, (refl, tt)))) }
+shaped KwContext word h = record { byte = 99; run = codes "ontext"; is = h; follows = (refl, (refl, (refl, (refl, (refl, (refl, tt)))))) }
+shaped KwQui word h = record { byte = 113; run = codes "ui"; is = h; follows = (refl, (refl, tt)) }
+
+-- the most bytes of a token after its first
+abbrev pub most_behind : Class → List ℕ → ℕ
+most_behind Letter tail = prefix_len is_name_byte tail
+most_behind Digit tail = prefix_len is_ascii_digit tail
+most_behind Hash tail = prefix_len is_ascii_alphabetic tail
+most_behind (Pair kind second) tail = 1
+most_behind (Mark kind) tail = 0
+most_behind Other tail = 0
+
+-- no more bytes follow than these
+follows_within : (c : Class) (run rest : List ℕ) → Follows c run → length run ≤ most_behind c (run ++ rest)
+follows_within Letter run rest follows = run_is_within is_name_byte run rest follows
+follows_within Digit run rest follows = run_is_within is_ascii_digit run rest follows
+follows_within Hash run rest follows = run_is_within is_ascii_alphabetic run rest follows.0
+follows_within (Pair kind second) run rest follows = let e = ap length follows in omega arith
+follows_within (Mark kind) run rest follows = let e = ap length follows in omega arith
+follows_within Other run rest follows = absurd follows
+
+-- a token at the front, with its shape there
+pub record IsShapedAt (byte : ℕ) (tail word rest : List ℕ) : Type 0 where
+  pub run : List ℕ
+  pub is : word ≡ byte ∷ run
+  pub split : tail ≡ run ++ rest
+  pub follows : Follows (class byte) run
+
+pub shaped_at : (byte : ℕ) (tail : List ℕ) (kind : TokenKind) (word rest : List ℕ) → byte ∷ tail ≡ word ++ rest → SpellsToken kind word → IsShapedAt byte tail word rest
+shaped_at byte tail kind word rest cut spelled =
+    let shape = shaped kind word spelled in
+    let e : byte ∷ tail ≡ shape.byte ∷ (shape.run ++ rest) = cut ∙ ap (λ w. w ++ rest) shape.is in
+    let same : shape.byte ≡ byte = cc in
+    record { run = shape.run; is = shape.is ∙ ap (λ b. b ∷ shape.run) same; split = cc; follows = subst (λ b. Follows (class b) shape.run) same shape.follows }
+
+-- no token at the front is longer
+pub shaped_within : (byte : ℕ) (tail word rest : List ℕ) → IsShapedAt byte tail word rest → length word ≤ suc (most_behind (class byte) tail)
+shaped_within byte tail word rest shape =
+    let within = follows_within (class byte) shape.run rest shape.follows in
+    let size = ap length shape.is in
+    rw shape.split (omega arith)
+
+-- The longest token at the front of bytes.
+
+-- bytes of which there are some are the first and those after it
+first_and_tail : (bytes : List ℕ) → 0 < length bytes → bytes ≡ get_or bytes 0 0 ∷ drop 1 bytes
+first_and_tail [] some = absurd (omega arith)
+first_and_tail (byte ∷ tail) some = refl
+
+-- a token at the front, by the first byte
+shaped_front : (bytes : List ℕ) → 0 < length bytes → (kind : TokenKind) (word rest : List ℕ) → bytes ≡ word ++ rest → SpellsToken kind word → IsShapedAt (get_or bytes 0 0) (drop 1 bytes) word rest
+shaped_front bytes some kind word rest cut spelled = shaped_at _ _ kind word rest (sym (first_and_tail bytes some) ∙ cut) spelled
+
+-- a token of as many bytes as can follow its first is the longest
+pub front_from : (bytes : List ℕ) (kind : TokenKind) (size : ℕ) → 0 < length bytes → size ≡ 1 + most_behind (class (get_or bytes 0 0)) (drop 1 bytes) → size ≤ length bytes → SpellsToken kind (take size bytes) → IsFront bytes kind size
+front_from bytes kind size some is within spelled = record {
+  some = omega arith;
+  within = within;
+  spelled = spelled;
+  longest = λ kind' other rest cut spells.
+      let whole : bytes ≡ other ++ rest = sym (take-append-drop size bytes) ∙ cut in
+      let most = shaped_within _ _ other rest (shaped_front bytes some kind' other rest whole spells) in
+      rw (length-take-le size bytes within) (omega arith);
+}
+
+-- where nothing can follow the first byte, no token begins
+pub no_front : (bytes : List ℕ) → 0 < length bytes → ((run rest : List ℕ) → drop 1 bytes ≡ run ++ rest → Follows (class (get_or bytes 0 0)) run → ⊥) → BeginsNoToken bytes
+no_front bytes some nothing kind word rest cut spelled =
+    let shape = shaped_front bytes some kind word rest cut spelled in nothing shape.run rest shape.split shape.follows
+
+-- the bytes after the first, as they are passed on
+pub tail_is : (bytes : List ℕ) → take (length bytes - 1) (drop 1 bytes) ≡ drop 1 bytes
+tail_is bytes = take_rest bytes 1
+
+-- the longest run after the first byte ends within the bytes
+pub run_within : (p : ℕ → Bool) (bytes : List ℕ) (size : ℕ) → 0 < length bytes → size ≡ prefix_len p (take (length bytes - 1) (drop 1 bytes)) → 1 + size ≤ length bytes
+run_within p [] size some is = absurd (omega arith)
+run_within p (byte ∷ tail) size some is =
+    let most = prefix_len-le-length p tail in
+    let e : size ≡ prefix_len p tail = is ∙ ap (prefix_len p) (tail_is (byte ∷ tail)) in omega arith
+
+-- a first byte and the longest run after it
+pub run_word : (first p : ℕ → Bool) (bytes : List ℕ) (size : ℕ) → 0 < length bytes → first (get_or bytes 0 0) ≡ true → size ≡ prefix_len p (take (length bytes - 1) (drop 1 bytes)) → Runs first p (take (1 + size) bytes)
+run_word first p [] size some passes is = absurd (omega arith)
+run_word first p (byte ∷ tail) size some passes is =
+    let e : size ≡ prefix_len p tail = is ∙ ap (prefix_len p) (tail_is (byte ∷ tail)) in
+    let s : 1 + size ≡ suc size = omega arith in
+    rw s (passes, subst (λ n. Pass p (take n tail)) (sym e) (longest_run p tail))
+
+-- a token that is a first byte and the longest run of those that may follow it
+pub run_front : (p : ℕ → Bool) (told : Class) (bytes : List ℕ) (kind : TokenKind) (size : ℕ) → 0 < length bytes → class (get_or bytes 0 0) ≡ told → ((tail : List ℕ) → most_behind told tail ≡ prefix_len p tail) → size ≡ prefix_len p (take (length bytes - 1) (drop 1 bytes)) → SpellsToken kind (take (1 + size) bytes) → IsFront bytes kind (1 + size)
+run_front p told bytes kind size some is most size_is spelled =
+    let e : size ≡ most_behind (class (get_or bytes 0 0)) (drop 1 bytes) = size_is ∙ ap (prefix_len p) (tail_is bytes) ∙ sym (ap (λ c. most_behind c (drop 1 bytes)) is ∙ most (drop 1 bytes)) in
+    front_from bytes kind (1 + size) some (ap (λ n. 1 + n) e) (run_within p bytes size some size_is) spelled
+
+-- the first byte alone spells a token
+pub mark_spelled : (bytes : List ℕ) (kind : TokenKind) → 0 < length bytes → SpellsToken kind (get_or bytes 0 0 ∷ []) → SpellsToken kind (take 1 bytes)
+mark_spelled [] kind some spelled = absurd (omega arith)
+mark_spelled (byte ∷ tail) kind some spelled = spelled
+
+-- Each text has its tokens, or a first fault.
 
 -- ---- the gap at the front
 
@@ -211,3 +394,73 @@ lexed_from (suc fuel) text at tokens within most cut =
 
 pub lexed : (text : List ℕ) → (answer : Result (List Token) LexFault) × IsLexed text answer
 lexed text = lexed_from (length text) text 0 [] (omega arith) (omega arith) refl
+
+-- A word spells one kind of token at most.
+
+-- the kind of a word that a lower-case letter begins
+abbrev reserved_kind : List ℕ → TokenKind
+reserved_kind word =
+    cond (bytes_eq word (codes "type")) KwType
+    (cond (bytes_eq word (codes "pred")) KwPred
+    (cond (bytes_eq word (codes "bwd")) KwBwd
+    (cond (bytes_eq word (codes "fact")) KwFact
+    (cond (bytes_eq word (codes "stage")) KwStage
+    (cond (bytes_eq word (codes "context")) KwContext
+    (cond (bytes_eq word (codes "qui")) KwQui Name))))))
+
+-- the kind of a word of a class
+abbrev kind_in : Class → List ℕ → TokenKind
+kind_in Letter word = cond (is_ascii_uppercase (get_or word 0 0)) Variable (reserved_kind word)
+kind_in Digit word = Number
+kind_in Hash word = Directive
+kind_in (Pair kind second) word = kind
+kind_in (Mark kind) word = kind
+kind_in Other word = Name
+
+-- the kind of a word
+abbrev kind_of : List ℕ → TokenKind
+kind_of word = kind_in (class (get_or word 0 0)) word
+
+-- a word that is none of the reserved ones
+differs : (word other : List ℕ) → word ≢ other → bytes_eq word other ≡ false
+differs word other apart = false_from_ne_true _ (λ same. apart ((bytes_eq-Decides word other).0 same))
+
+-- a lower-case letter is no upper-case one
+lower_not_upper : (byte : ℕ) → is_ascii_lowercase byte ≡ true → is_ascii_uppercase byte ≡ false
+lower_not_upper byte lower = let above : 97 ≤ byte = leb-true 97 byte (and_parts (nat_le 97 byte) (nat_le byte 122) lower).0 in and_right _ _ (lt-leb byte 90 (omega arith))
+
+-- a word spells the one kind
+spelled_kind : (kind : TokenKind) (word : List ℕ) → SpellsToken kind word → kind_of word ≡ kind
+spelled_kind Name [] h = absurd h.0
+spelled_kind Name (byte ∷ run) h =
+    rw (letter_class byte (or_right _ _ h.0.0), lower_not_upper byte h.0.0)
+    (rw (differs _ _ h.1.0, differs _ _ h.1.1.0, differs _ _ h.1.1.1.0, differs _ _ h.1.1.1.1.0, differs _ _ h.1.1.1.1.1.0, differs _ _ h.1.1.1.1.1.1.0, differs _ _ h.1.1.1.1.1.1.1.0) refl)
+spelled_kind Variable [] h = absurd h
+spelled_kind Variable (byte ∷ run) h = rw (letter_class byte (or_left _ _ h.0), h.0) refl
+spelled_kind Number [] h = absurd h
+spelled_kind Number (byte ∷ run) h = rw (digit_class byte h.0) refl
+spelled_kind Directive [] h = absurd h.0
+spelled_kind Directive (byte ∷ run) h = rw (hash_class byte h.0.0) refl
+spelled_kind Blank word h = ap kind_of h
+spelled_kind Colon word h = ap kind_of h
+spelled_kind Dot word h = ap kind_of h
+spelled_kind Comma word h = ap kind_of h
+spelled_kind Star word h = ap kind_of h
+spelled_kind Dollar word h = ap kind_of h
+spelled_kind Equals word h = ap kind_of h
+spelled_kind Open word h = ap kind_of h
+spelled_kind Close word h = ap kind_of h
+spelled_kind OpenBrace word h = ap kind_of h
+spelled_kind CloseBrace word h = ap kind_of h
+spelled_kind Lolli word h = ap kind_of h
+spelled_kind Back word h = ap kind_of h
+spelled_kind KwType word h = ap kind_of h
+spelled_kind KwPred word h = ap kind_of h
+spelled_kind KwBwd word h = ap kind_of h
+spelled_kind KwFact word h = ap kind_of h
+spelled_kind KwStage word h = ap kind_of h
+spelled_kind KwContext word h = ap kind_of h
+spelled_kind KwQui word h = ap kind_of h
+
+pub same_kind : (one other : TokenKind) (word : List ℕ) → SpellsToken one word → SpellsToken other word → one ≡ other
+same_kind one other word is is' = sym (spelled_kind one word is) ∙ spelled_kind other word is'

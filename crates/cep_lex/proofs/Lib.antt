@@ -1,10 +1,4 @@
-pub mod Runs
-pub mod Shapes
-pub mod FrontLemmas
 pub mod GapLemmas
-pub mod PlaceLemmas
 pub mod Steps
-pub mod WordKinds
-pub mod Skipping
 pub mod Unique
 pub mod Lexed

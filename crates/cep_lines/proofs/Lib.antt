@@ -1,4 +1,2 @@
-pub mod Adding
-pub mod LineLemmas
 pub mod States
-pub mod OfferLines
+pub mod Adding

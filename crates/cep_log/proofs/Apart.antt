@@ -8,7 +8,7 @@ use Rattle.cep_log.specs.declared.so_far.SoFar.TheVariants.{Nothing}
 use Rattle.cep_log.specs.declared.fault.LogFault.{LogFault}
 use Rattle.cep_log.specs.Transcript.{MovesOn, Leads, said_by, HasLog, HasMisfit, IsFirstMisfit, StopsEarly, IsFaultOf}
 use Rattle.cep_log.proofs.Cuts.{one_cut}
-use Rattle.cep_log.proofs.Once.{OneValue, one_way, one_passed}
+use Rattle.cep_log.proofs.LineKindLemmas.{OneValue, one_way, one_passed}
 
 -- a way through all lines goes through each of them
 leads_through : (program : Parts) (n : ℕ) (before : List (List ℕ)) (line : List ℕ) (behind : List (List ℕ)) (old new : SoFar) → Leads program n (before ++ line ∷ behind) old new

@@ -19,7 +19,7 @@ use Rattle.cep_log.specs.declared.log.LogEnd.{LogEnd}
 use Rattle.cep_log.specs.Legal.{IsHave, IsListing}
 use Rattle.cep_log.specs.Transcript.{IsOneLine, IsReadable, stage_texts}
 use Rattle.cep_log.specs.Written.{mid_texts, end_texts}
-use Rattle.cep_log.proofs.OneLine.{decimal_one, atom_one, offer_one, proof_one, stage_one}
+use Rattle.cep_log.proofs.SameLogs.{decimal_one, atom_one, offer_one, proof_one, stage_one}
 
 -- Literals are told by a test.
 

@@ -1,22 +1,269 @@
--- The lines that were read so far, and what is said of all of them.
-use Rattle.std.proofs.Common.{◌≡◌, inl, inr, ℕ, ◌+◌, ◌<◌, ◌≤◌, List, [], ◌∷◌, ◌++◌, length, map, Some, None, refl, sym, ap, ◌∙◌, subst, arith, length-append, append_assoc}
+-- The lines that were read so far, and the log that they say.
+use Rattle.std.proofs.Common.{◌≡◌, ◌⊎◌, inl, inr, ℕ, suc, ◌+◌, ◌-◌, ◌<◌, ◌≤◌, ◌&&◌, ◌||◌, List, [], ◌∷◌, ◌++◌, length, Bool, true, false, Option, Some, None, refl, sym, ap, ◌∙◌, subst, arith, length-append, add-one, map, append_assoc}
+use Rattle.std.specs.Prelude.{slice_get, nat_le, is_none, is_some, IsSome, IfSome, IsSomeAnd, ◌↔◌, if◌then◌else◌}
+use Rattle.std.specs.List.{AllByRecursion}
+use Rattle.std.specs.declared.cmp.Ordering.TheVariants.{Less}
+use Rattle.std.proofs.lemmas.Bool.{leb-true, le-leb}
+use Rattle.cep_base.proofs.Lists.{none_some, some_same, all_pushed}
+use Rattle.cep_base.specs.declared.limits.TheConstants.{MOST_HEIGHT, MOST_LOG}
+use Rattle.cep_term.specs.Tree.{AtomTree}
+use Rattle.cep_term.specs.Order.{atom_cmp}
+use Rattle.cep_rule.specs.declared.rule.Rule.{Rule}
+use Rattle.cep_rule.specs.declared.parts.Parts.{Parts}
+use Rattle.cep_rule.specs.Limits.{IsHeight}
+use Rattle.cep_rule.specs.Typing.{AreValues}
+use Rattle.cep_rule.specs.Derivations.{proof_height, ProofTree}
+use Rattle.cep_log.specs.declared.log.Log.{Log}
+use Rattle.cep_log.specs.declared.log.LogStep.{LogStep}
+use Rattle.cep_log.specs.declared.log.LogMid.{LogMid}
+use Rattle.cep_lines.specs.declared.version.Version.{Version}
+use Rattle.cep_lines.specs.Lines.{has_listing}
+use Rattle.cep_log.specs.declared.so_far.SoFar.{SoFar}
+use Rattle.cep_log.specs.declared.so_far.SoFar.TheVariants.{Nothing, Begun, Height, Whole, Within, Unlisted, Listed, Ended}
+use Rattle.cep_log.specs.Legal.{IsHave, AtomsRise, IsListing, IsStepOf, HaveListings, IsLogOf}
+use Rattle.cep_log.specs.Transcript.{IsByLine, IsStageLine, IsBehind, GoesOnListing, BeginsNext, Becomes, MovesOn, Leads, next_number, log_with, log_listed, step_begun, has_own_lines, with_own, with_step, said_by, HasLog, HasMisfit, IsFaultOf}
 use Rattle.std.proofs.lemmas.List.{append-nil}
 use Rattle.std.proofs.lemmas.Option.{slice_get_within}
 use Rattle.bstr.specs.Text.{lines_of, without_terminator}
 use Rattle.std.specs.Cmp.{IsTotalOrder}
-use Rattle.cep_term.specs.Order.{atom_cmp}
-use Rattle.cep_rule.specs.declared.parts.Parts.{Parts}
-use Rattle.cep_log.specs.declared.log.Log.{Log}
-use Rattle.cep_base.specs.declared.limits.TheConstants.{MOST_LOG}
-use Rattle.cep_log.specs.declared.so_far.SoFar.{SoFar}
-use Rattle.cep_log.specs.declared.so_far.SoFar.TheVariants.{Nothing}
 use Rattle.cep_log.specs.declared.fault.LogFault.{LogFault}
 use Rattle.cep_log.specs.declared.fault.LogFault.TheVariants.{Line}
-use Rattle.cep_log.specs.Legal.{IsLogOf}
 use Rattle.cep_log.specs.Growing.{CanGrow}
-use Rattle.cep_log.specs.Transcript.{MovesOn, Leads, said_by, HasLog, HasMisfit, IsFaultOf}
 use Rattle.cep_log.proofs.Cuts.{lines_are, few_lines}
-use Rattle.cep_log.proofs.Ofs.{Transitive, IsReadOf, leads_kept, said_is_of}
+
+-- The log that a transcript says is of the program.
+
+-- Listings
+
+-- the atom stands after each that stands before the last
+abbrev pub Transitive : Type 0
+Transitive = (a b c : AtomTree) → atom_cmp a b ≡ Less → atom_cmp b c ≡ Less → atom_cmp a c ≡ Less
+
+behind_all : (through : Transitive) (entries : List (AtomTree × ℕ)) (atom : AtomTree) → AtomsRise entries → IsBehind entries atom → AllByRecursion (λ earlier. atom_cmp earlier.0 atom ≡ Less) entries
+behind_all through (entry ∷ next ∷ entries) atom rise behind =
+    let later = behind_all through (next ∷ entries) atom rise.1 (moved entry next entries atom behind) in
+    (through entry.0 next.0 atom rise.0.0 later.0, later) where
+      moved : (entry next : AtomTree × ℕ) (entries : List (AtomTree × ℕ)) (atom : AtomTree) → IsBehind (entry ∷ next ∷ entries) atom → IsBehind (next ∷ entries) atom
+      moved entry next entries atom behind =
+          let at : slice_get (entry ∷ next ∷ entries) (length (entry ∷ next ∷ entries) - 1) ≡ slice_get (next ∷ entries) (length (next ∷ entries) - 1) = ap (λ n. slice_get (entry ∷ next ∷ entries) n) (less (length entries)) ∙ ap (λ n. slice_get (next ∷ entries) n) (sym (less' (length entries))) in
+          subst (λ found. IfSome found (λ last. atom_cmp last.0 atom ≡ Less)) at behind where
+            less : (n : ℕ) → suc (suc n) - 1 ≡ suc n
+            less n = omega arith
+
+            less' : (n : ℕ) → suc n - 1 ≡ n
+            less' n = omega arith
+behind_all through entries atom rise behind = grind arith
+
+rising_pushed : (entries : List (AtomTree × ℕ)) (entry : AtomTree × ℕ) → AtomsRise entries → AllByRecursion (λ earlier. atom_cmp earlier.0 entry.0 ≡ Less) entries → AtomsRise (entries ++ entry ∷ [])
+rising_pushed [] entry rise all = (tt, tt)
+rising_pushed (first ∷ entries) entry rise all = (all_pushed (λ later. atom_cmp first.0 later.0 ≡ Less) entries entry rise.0 all.0, rising_pushed entries entry rise.1 all.1)
+
+listing_more : (through : Transitive) (program : Parts) (line : List ℕ) (old new : List (AtomTree × ℕ)) → IsListing program.signature old → GoesOnListing program line old new → IsListing program.signature new
+listing_more through program line old new is more =
+    subst (IsListing program.signature) (sym more.added) (record {
+      each = all_pushed (IsHave program.signature) old more.entry is.each (record { atom = more.said.atom.well_typed; fit = more.said.atom.fit; some = more.said.some; few = more.said.few });
+      rising = rising_pushed old more.entry is.rising (behind_all through old more.entry.0 is.rising more.behind);
+    })
+
+-- one step more has a listing where its number wants one
+listings_pushed : (version : Version) (number : ℕ) (steps : List LogStep) (step : LogStep) → HaveListings version number steps → is_some step.mid ≡ has_listing version (number + length steps) → HaveListings version number (steps ++ step ∷ [])
+listings_pushed version number [] step all this = (subst (λ (n : ℕ). is_some step.mid ≡ has_listing version n) (let none : length {A = LogStep} [] ≡ 0 = refl in omega arith) this, tt)
+listings_pushed version number (first ∷ steps) step all this = (all.0, listings_pushed version (number + 1) steps step all.1 (subst (λ (n : ℕ). is_some step.mid ≡ has_listing version n) (omega arith) this))
+
+-- What was read of a log before the line of this number: no step is of this line or a later one.
+pub record IsPartOf (program : Parts) (number : ℕ) (log : Log) : Type 0 where
+  pub height : IsHeight log.height
+  pub stage : log.stage < length program.stages
+  pub start : IsListing program.signature log.start
+  pub steps : AllByRecursion (IsStepOf program) log.steps
+  pub listed : HaveListings log.version 1 log.steps
+  pub few : length log.steps < number
+
+-- A step that lacks own lines.
+pub record IsOpenOf (program : Parts) (step : LogStep) : Type 0 where
+  pub rule : Rule
+  pub numbered : slice_get program.rules step.offer.rule ≡ Some rule
+  pub values : AreValues program.signature.cons rule.kinds step.offer.values
+  pub low : AllByRecursion (λ proof. proof_height proof ≤ MOST_HEIGHT) step.proofs
+  pub few : length step.proofs ≤ length rule.backs
+  pub no_stage : step.stage ≡ None
+  pub no_mid : step.mid ≡ None
+  pub lacks : has_own_lines rule step ≡ false
+
+-- A step that lacks its listing alone.
+pub record IsUnlistedOf (program : Parts) (log : Log) (step : LogStep) : Type 0 where
+  pub of_program : IsStepOf program step
+  pub wants : has_listing log.version (next_number log) ≡ true
+
+abbrev pub IsReadOf : Parts → ℕ → SoFar → Type 0
+IsReadOf program number Nothing = Unit {0}
+IsReadOf program number (Begun version) = Unit {0}
+IsReadOf program number (Height version height) = IsHeight height
+IsReadOf program number (Whole log) = IsPartOf program number log × (log.end ≡ None)
+IsReadOf program number (Within log step) = IsPartOf program number log × ((log.end ≡ None) × (suc (length log.steps) < number) × IsOpenOf program step)
+IsReadOf program number (Unlisted log step) = IsPartOf program number log × ((log.end ≡ None) × (suc (length log.steps) < number) × IsUnlistedOf program log step)
+IsReadOf program number (Listed log step mid) = IsPartOf program number log × ((log.end ≡ None) × (suc (length log.steps) < number) × IsUnlistedOf program log step × IsListing program.signature mid.state)
+IsReadOf program number (Ended log end) = IsPartOf program number log × IsListing program.signature end.state
+
+-- Own lines
+
+own_none : (next : Option ℕ) (stage : Option ℕ) (full : Bool) → stage ≡ None → (full && (is_none next || is_some stage)) ≡ true → (full ≡ true) × (IsSome stage ↔ IsSome next)
+own_none next stage full none t = grind arith
+
+lacks_stage : (next : Option ℕ) (full : Bool) → full ≡ true → (full && (is_none next || false)) ≡ false → IsSome next
+lacks_stage next full f t = grind arith
+
+has_stage : (next : Option ℕ) (full : Bool) (s : ℕ) → full ≡ true → (full && (is_none next || is_some (Some s))) ≡ true
+has_stage next full s f = grind arith
+
+le_tests : (m n : ℕ) → m ≤ n → nat_le m n ≡ true
+le_tests m n h = le-leb m n h
+
+module _ (program : Parts) where
+  part_later : (m n : ℕ) (log : Log) → IsPartOf program m log → m ≤ n → IsPartOf program n log
+  part_later m n log part h = record { height = part.height; stage = part.stage; start = part.start; steps = part.steps; listed = part.listed; few = let few = part.few in omega arith }
+
+  with_whole : (m n : ℕ) (log : Log) (step : LogStep) → IsPartOf program m log → suc (length log.steps) < n → IsStepOf program step → is_some step.mid ≡ has_listing log.version (next_number log) → IsPartOf program n (log_with log step)
+  with_whole m n log step part few of mid = record {
+    height = part.height;
+    stage = part.stage;
+    start = part.start;
+    steps = all_pushed (IsStepOf program) log.steps step part.steps of;
+    listed = listings_pushed log.version 1 log.steps step part.listed (subst (λ (n : ℕ). is_some step.mid ≡ has_listing log.version n) (omega arith) mid);
+    few = let h = length-append log.steps (step ∷ []) in omega arith;
+  }
+
+  with_listing : (n : ℕ) (log : Log) (step : LogStep) (mid : LogMid) → IsPartOf program n log → suc (length log.steps) < n → IsUnlistedOf program log step → IsListing program.signature mid.state → IsPartOf program n (log_listed log step mid)
+  with_listing n log step mid part few is listing =
+      let of = is.of_program in
+      with_whole n n log (record step { mid = Some mid }) part few
+      (record { rule = of.rule; numbered = of.numbered; values = of.values; as_many = of.as_many; low = of.low; stage = of.stage; in_range = of.in_range; listing = listing }) (sym is.wants)
+
+  -- a step with all other own lines is whole, or it lacks its listing
+  owned : (n : ℕ) (log : Log) (step : LogStep) → IsPartOf program n log → log.end ≡ None → suc (length log.steps) < suc n → IsStepOf program step → step.mid ≡ None → IsReadOf program (suc n) (with_own log step)
+  owned n log step part unended few of no_mid = cases (has_listing log.version (next_number log)) refl where
+    cases : (wants : Bool) → has_listing log.version (next_number log) ≡ wants → IsReadOf program (suc n) (if wants then Unlisted log step else Whole (log_with log step))
+    cases true t = (part_later n (suc n) log part (omega arith), (unended, few, record { of_program = of; wants = t }))
+    cases false t = (with_whole n (suc n) log step part few of (ap is_some no_mid ∙ sym t), unended)
+
+  -- a step without a stage has all its own lines but for the listing, or it lacks some
+  pending : (n : ℕ) (log : Log) (step : LogStep) (rule : Rule) → IsPartOf program n log → log.end ≡ None → suc (length log.steps) < suc n
+      → slice_get program.rules step.offer.rule ≡ Some rule → AreValues program.signature.cons rule.kinds step.offer.values
+      → AllByRecursion (λ proof. proof_height proof ≤ MOST_HEIGHT) step.proofs → length step.proofs ≤ length rule.backs → step.stage ≡ None → step.mid ≡ None
+      → IsReadOf program (suc n) (with_step rule log step)
+  pending n log step rule part unended few numbered values low within no_stage no_mid = cases (has_own_lines rule step) refl where
+    cases : (own : Bool) → has_own_lines rule step ≡ own → IsReadOf program (suc n) (if own then with_own log step else Within log step)
+    cases true t =
+        let own = own_none rule.next step.stage (nat_le (length rule.backs) (length step.proofs)) no_stage t in
+        let enough = leb-true (length rule.backs) (length step.proofs) own.0 in
+        owned n log step part unended few (record {
+          rule = rule;
+          numbered = numbered;
+          values = values;
+          as_many = omega arith;
+          low = low;
+          stage = own.1;
+          in_range = subst (λ stage. IfSome stage (λ stage. stage < length program.stages)) (sym no_stage) tt;
+          listing = subst (λ (mid : Option LogMid). IfSome mid (λ mid. IsListing program.signature mid.state)) (sym no_mid) tt;
+        }) no_mid
+    cases false t =
+        (part_later n (suc n) log part (omega arith), (unended, few, record { rule = rule; numbered = numbered; values = values; low = low; few = within; no_stage = no_stage; no_mid = no_mid; lacks = t }))
+
+  -- and so has one with its stage
+  staged : (n : ℕ) (log : Log) (step : LogStep) (rule : Rule) (stage : ℕ) → IsPartOf program n log → log.end ≡ None → suc (length log.steps) < suc n
+      → slice_get program.rules step.offer.rule ≡ Some rule → AreValues program.signature.cons rule.kinds step.offer.values
+      → AllByRecursion (λ proof. proof_height proof ≤ MOST_HEIGHT) step.proofs → length step.proofs ≡ length rule.backs → IsSome rule.next → stage < length program.stages → step.mid ≡ None
+      → IsReadOf program (suc n) (with_step rule log (record step { stage = Some stage }))
+  staged n log step rule stage part unended few numbered values low all leaves in_range no_mid =
+      let own : has_own_lines rule (record step { stage = Some stage }) ≡ true = has_stage rule.next (nat_le (length rule.backs) (length step.proofs)) stage (le_tests (length rule.backs) (length step.proofs) (omega arith)) in
+      let whole : IsStepOf program (record step { stage = Some stage }) = record {
+        rule = rule;
+        numbered = numbered;
+        values = values;
+        as_many = all;
+        low = low;
+        stage = ((λ h. leaves), (λ h. refl));
+        in_range = in_range;
+        listing = subst (λ (mid : Option LogMid). IfSome mid (λ mid. IsListing program.signature mid.state)) (sym no_mid) tt;
+      } in
+      subst (λ (is : Bool). IsReadOf program (suc n) (if is then with_own log (record step { stage = Some stage }) else Within log (record step { stage = Some stage }))) (sym own)
+      (owned n log (record step { stage = Some stage }) part unended few whole no_mid)
+
+  -- a line that begins a step or the end
+  begins_kept : (n : ℕ) (line : List ℕ) (log : Log) (new : SoFar) → IsPartOf program n log → log.end ≡ None → BeginsNext program n line log new → IsReadOf program (suc n) new
+  begins_kept n line log new part unended (inl begins) =
+      let values = subst (λ found. IsSomeAnd found (λ rule. AreValues program.signature.cons rule.kinds begins.offer.values)) begins.numbered begins.said.offer_is.of_rule in
+      subst (IsReadOf program (suc n)) (sym begins.step)
+      (pending n log (step_begun n begins.offer) begins.rule part unended (omega arith) begins.numbered values tt (omega arith) refl refl)
+  begins_kept n line log new part unended (inr ends) = grind (arith, part_later, ends.ended)
+
+  pub takes_kept : (through : Transitive) (n : ℕ) (line : List ℕ) (old new : SoFar) → IsReadOf program n old → Becomes program n line old new → IsReadOf program (suc n) new
+  takes_kept through n line Nothing new is takes = subst (IsReadOf program (suc n)) (sym takes.2) tt
+  takes_kept through n line (Begun version) new is takes = subst (IsReadOf program (suc n)) (sym takes.3) takes.1
+  takes_kept through n line (Height version height) new is takes = grind (arith, takes.2, takes.1.in_range)
+  takes_kept through n line (Whole log) new is (inl goes) =
+      let part = is.0 in
+      subst (IsReadOf program (suc n)) (sym goes.whole)
+      (record { height = part.height; stage = part.stage; start = listing_more through program line log.start goes.start part.start goes.listed; steps = part.steps; listed = part.listed; few = let few = part.few in omega arith }, is.1)
+  takes_kept through n line (Whole log) new is (inr next) = begins_kept n line log new is.0 is.1 next
+  takes_kept through n line (Unlisted log step) new is takes = grind (arith, part_later, takes.1, is.0, is.1.0, is.1.1, is.1.2)
+  takes_kept through n line (Listed log step mid) new is (inl goes) =
+      subst (IsReadOf program (suc n)) (sym goes.more)
+      (part_later n (suc n) log is.0 (omega arith), (is.1.0, (let h = is.1.1 in omega arith), is.1.2, listing_more through program line mid.state goes.state is.1.3 goes.listed))
+  takes_kept through n line (Listed log step mid) new is (inr next) = grind (arith, begins_kept n line (log_listed log step mid) new (with_listing n log step mid is.0 is.1.1 is.1.2 is.1.3) is.1.0 next, with_listing n log step mid is.0 is.1.1 is.1.2 is.1.3, is.0, is.1.1, is.1.2, is.1.3, is.1.0)
+  takes_kept through n line (Within log step) new is goes = cases goes.own where
+    open_step : IsOpenOf program step
+    open_step = is.1.2
+
+    same : open_step.rule ≡ goes.rule
+    same = some_same open_step.rule goes.rule (sym open_step.numbered ∙ goes.numbered)
+
+    few : suc (length log.steps) < suc n
+    few = let h = is.1.1 in omega arith
+
+    values : AreValues program.signature.cons goes.rule.kinds step.offer.values
+    values = subst (λ rule. AreValues program.signature.cons rule.kinds step.offer.values) same open_step.values
+
+    cases : ((proof : ProofTree) × (length step.proofs < length goes.rule.backs) × IsByLine program line proof × (new ≡ with_step goes.rule log (record step { proofs = step.proofs ++ proof ∷ [] })))
+        ⊎ ((stage : ℕ) × (length goes.rule.backs ≤ length step.proofs) × IsStageLine program line stage × (new ≡ with_step goes.rule log (record step { stage = Some stage })))
+        → IsReadOf program (suc n) new
+    cases (inl more) =
+        let longer = length-append step.proofs (more.0 ∷ []) in
+        let below = more.1 in
+        subst (IsReadOf program (suc n)) (sym more.3)
+        (pending n log (record step { proofs = step.proofs ++ more.0 ∷ [] }) goes.rule is.0 is.1.0 few goes.numbered values
+        (all_pushed (λ proof. proof_height proof ≤ MOST_HEIGHT) step.proofs more.0 open_step.low more.2.proof_is.low) (omega arith) open_step.no_stage open_step.no_mid)
+    cases (inr said) =
+        let within : length step.proofs ≤ length goes.rule.backs = subst (λ rule. length step.proofs ≤ length rule.backs) same open_step.few in
+        let enough = said.1 in
+        let lacks : has_own_lines goes.rule step ≡ false = subst (λ rule. has_own_lines rule step ≡ false) same open_step.lacks in
+        let lacks_none : (nat_le (length goes.rule.backs) (length step.proofs) && (is_none goes.rule.next || false)) ≡ false = subst (λ stage. (nat_le (length goes.rule.backs) (length step.proofs) && (is_none goes.rule.next || is_some stage)) ≡ false) open_step.no_stage lacks in
+        let leaves = lacks_stage goes.rule.next (nat_le (length goes.rule.backs) (length step.proofs)) (le_tests (length goes.rule.backs) (length step.proofs) (omega arith)) lacks_none in
+        subst (IsReadOf program (suc n)) (sym said.3)
+        (staged n log step goes.rule said.0 is.0 is.1.0 few goes.numbered values open_step.low (omega arith) leaves said.2.in_range open_step.no_mid)
+  takes_kept through n line (Ended log end) new is goes = grind (arith, part_later, listing_more through program line end.state goes.state is.1 goes.listed, goes.ended, is.0, end.state, goes.state, is.1, goes.listed)
+
+  -- a line that is passed over leaves all as it is
+  read_later : (n : ℕ) (so_far : SoFar) → IsReadOf program n so_far → IsReadOf program (suc n) so_far
+  read_later n so_far is = grind (arith, part_later)
+
+  passes_kept : (through : Transitive) (n : ℕ) (line : List ℕ) (old new : SoFar) → IsReadOf program n old → MovesOn program n line old new → IsReadOf program (suc n) new
+  passes_kept through n line old new is given = grind (arith, read_later, takes_kept)
+
+  pub leads_kept : (through : Transitive) (n : ℕ) (lines : List (List ℕ)) (old new : SoFar) → IsReadOf program n old → Leads program n lines old new → IsReadOf program (n + length lines) new
+  leads_kept through n [] old new is leads = subst (λ (m : ℕ). IsReadOf program m new) (omega arith) (subst (IsReadOf program n) (sym leads) is)
+  leads_kept through n (line ∷ lines) old new is leads =
+      let next : IsReadOf program (n + 1) leads.0 = subst (λ (m : ℕ). IsReadOf program m leads.0) (sym (add-one n)) (passes_kept through n line old leads.0 is leads.1) in
+      subst (λ (m : ℕ). IsReadOf program m new) (omega arith) (leads_kept through (n + 1) lines leads.0 new next leads.2)
+
+  whole_is_of : (lines : ℕ) (log : Log) → lines ≤ MOST_LOG → IsPartOf program (1 + lines) log → log.end ≡ None → IsLogOf program (record log { lines = lines })
+  whole_is_of lines log short part unended = grind (arith, part.height, part.stage, part.start, part.steps, part.listed, program.signature, part.few)
+
+  -- The log that is said is of the program.
+  pub said_is_of : (lines : ℕ) (last : SoFar) (log : Log) → lines ≤ MOST_LOG → IsReadOf program (1 + lines) last → said_by last lines ≡ Some log → IsLogOf program log
+  said_is_of lines last log short is said = grind (arith, none_some, some_same, whole_is_of, with_listing)
+
+-- The lines that were read so far, and what is said of all of them.
 
 -- all lines
 abbrev pub all_lines : List ℕ → List (List ℕ)

@@ -1,32 +1,191 @@
--- A legal log, as it is written line by line, is read as a log that says the same.
-use Rattle.std.proofs.Common.{◌≡◌, inl, inr, ℕ, ◌+◌, ◌<◌, ◌≤◌, cond, List, [], ◌∷◌, ◌++◌, length, length-append, map, append_assoc, Bool, Option, Some, None, refl, sym, ap, ◌∙◌, subst, arith}
-use Rattle.std.specs.Prelude.{is_some, IfSome, IsSomeAnd}
+-- A legal log can be written, and is read as a log that says the same.
+use Rattle.std.proofs.Common.{◌≡◌, ℕ, ◌<◌, ◌≤◌, List, [], ◌∷◌, length, Option, Some, sym, ap, ◌∙◌, subst, arith, inl, inr, ◌+◌, ◌&&◌, ◌||◌, cond, ◌++◌, map, Bool, true, false, None, refl, append_assoc, length-append}
+use Rattle.std.specs.Prelude.{slice_get, IfSome, IsSomeAnd, nat_le, is_none, is_some}
 use Rattle.std.specs.List.{AllByRecursion, AllZip, flat_map}
-use Rattle.std.proofs.lemmas.List.{append-nil}
-use Rattle.std.proofs.lemmas.Slice.Zip.{AllZip-long}
-use Rattle.cep_base.specs.declared.limits.TheConstants.{MOST_LOG}
-use Rattle.cep_base.proofs.Elements.{both_all}
+use Rattle.cep_base.specs.declared.limits.TheConstants.{MOST_HEIGHT, MOST_LOG}
+use Rattle.cep_base.proofs.Lists.{some_same, holds_at, none_some}
+use Rattle.cep_term.specs.Tree.{Tree, AtomTree}
+use Rattle.cep_term.specs.Multiset.{Multiset, IsContained}
+use Rattle.cep_rule.specs.declared.signature.Signature.{Signature}
+use Rattle.cep_rule.specs.declared.rule.Rule.{Rule}
 use Rattle.cep_rule.specs.declared.parts.Parts.{Parts}
-use Rattle.cep_rule.specs.Limits.{IsHeight}
-use Rattle.cep_rule.specs.Program.{IsProgram}
-use Rattle.cep_rule.specs.Steps.{start_spot}
-use Rattle.cep_lines.specs.declared.version.Version.{Version}
-use Rattle.cep_lines.specs.Lines.{line, has_listing, version_text, height_text, stage_text, have_text, step_text, by_text, state_text, end_text}
-use Rattle.cep_log.specs.declared.log.Log.{Log}
+use Rattle.cep_rule.specs.declared.offer.Offer.{Offer}
+use Rattle.cep_rule.specs.Typing.{AreValues}
+use Rattle.cep_rule.specs.State.{IsState}
+use Rattle.cep_rule.specs.Instances.{full_instances, left_of}
+use Rattle.cep_rule.specs.Derivations.{ProofTree, Proves, IsDerivable}
+use Rattle.cep_rule.specs.Shapes.{IsOfferOf, IsProofOf, IsSmallTerm, HasSmallValues}
+use Rattle.cep_rule.specs.Offers.{Applies}
+use Rattle.cep_rule.specs.Step.{Step}
+use Rattle.cep_rule.specs.Steps.{Spot, MakesFit, AreProofs, start_spot}
+use Rattle.cep_rule.specs.Program.{IsTypedRule, IsDividedRule, IsProgram}
 use Rattle.cep_log.specs.declared.log.LogStep.{LogStep}
+use Rattle.cep_log.specs.Legal.{IsListing, IsStepOf, IsLegalStep, AreLegalSteps, HaveListings, IsLegalEnd, IsLegal}
+use Rattle.cep_log.specs.Transcript.{IsReadable, IsByLine, BeginsNext, Becomes, MovesOn, Leads, stage_texts, has_own_lines, with_own, with_step, step_begun, log_listed, IsOneLine, IsPassedOver, HasLog, log_begun, mid_begun, end_begun, next_number, log_with}
+use Rattle.std.proofs.lemmas.List.{append-nil}
+use Rattle.std.proofs.lemmas.Bool.{le-leb, lt-leb}
+use Rattle.cep_lines.specs.Lines.{step_text, by_text, line, has_listing, version_text, height_text, stage_text, have_text, state_text, end_text}
+use Rattle.cep_text.specs.Texts.{offer_text, proof_text}
+use Rattle.cep_log.specs.declared.log.Log.{Log}
+use Rattle.cep_log.specs.declared.so_far.SoFar.{SoFar}
+use Rattle.cep_log.specs.declared.so_far.SoFar.TheVariants.{Nothing, Begun, Height, Whole, Within, Unlisted, Listed, Ended}
+use Rattle.std.proofs.lemmas.Slice.Zip.{AllZip-long}
+use Rattle.cep_base.proofs.Elements.{both_all}
+use Rattle.cep_rule.specs.Limits.{IsHeight}
+use Rattle.cep_lines.specs.declared.version.Version.{Version}
 use Rattle.cep_log.specs.declared.log.LogMid.{LogMid}
 use Rattle.cep_log.specs.declared.log.LogEnd.{LogEnd}
-use Rattle.cep_log.specs.declared.so_far.SoFar.{SoFar}
-use Rattle.cep_log.specs.declared.so_far.SoFar.TheVariants.{Nothing, Begun, Height, Whole, Unlisted, Listed, Ended}
-use Rattle.cep_log.specs.Legal.{IsListing, HaveListings, IsLegalEnd, IsLegal}
-use Rattle.cep_log.specs.Transcript.{IsOneLine, IsPassedOver, stage_texts, Leads, HasLog, log_begun, mid_begun, end_begun, next_number, log_with, with_own}
 use Rattle.cep_log.specs.Written.{start_texts, mid_texts, step_texts, end_texts, IsRemark, TellSteps, TellLog, ListTheSame, SayTheSame, EndTheSame, TellTheSame}
-use Rattle.cep_log.proofs.OneLine.{written_lines}
+use Rattle.cep_log.proofs.SameLogs.{written_lines, legal_too}
 use Rattle.cep_log.proofs.LineTexts.{version_one, height_one, stage_text_one, step_text_one, haves_one, bys_one, stages_one, mids_one, ends_one}
-use Rattle.cep_log.proofs.WrittenListings.{start_read, mid_read, end_read, ways_join}
-use Rattle.cep_log.proofs.WrittenSteps.{whole_log, next_stands, step_read}
-use Rattle.cep_log.proofs.Writable.{IsWritable, StepLaws, all_writable}
-use Rattle.cep_log.proofs.SameLogs.{legal_too}
+use Rattle.cep_log.proofs.LegalLogs.{start_read, mid_read, end_read, ways_join}
+
+-- The steps of a legal log can be written and read back.
+
+-- A step can be written and read back.
+pub record IsWritable (program : Parts) (step : LogStep) : Type 0 where
+  pub rule : Rule
+  pub numbered : slice_get program.rules step.offer.rule ≡ Some rule
+  pub of_rule : IsOfferOf program step.offer
+  pub small : AllByRecursion IsSmallTerm step.offer.values
+  pub as_many : length step.proofs ≡ length rule.backs
+  pub readable : AllByRecursion (IsReadable program) step.proofs
+  pub stage : step.stage ≡ rule.next
+  pub in_range : IfSome step.stage (λ stage. stage < length program.stages)
+  pub listing : IfSome step.mid (λ mid. IsListing program.signature mid.state)
+
+-- Steps lead from states to states and take what is there, derivations have the program's shape, and values are small.
+pub record StepLaws : Type 0 where
+  pub lead : (signature : Signature) (rule : Rule) (values : List Tree) (old new : Multiset) → IsTypedRule signature rule → IsDividedRule signature rule → AreValues signature.cons rule.kinds values
+      → IsState signature old → MakesFit rule values → Step signature rule values old new → IsState signature new
+  pub contained : (signature : Signature) (rule : Rule) (values : List Tree) (old new : Multiset) → Step signature rule values old new → IsContained (left_of signature rule values) old
+  pub shapes : (program : Parts) (proof : ProofTree) (a : AtomTree) → Proves program proof a → IsProofOf program proof
+  pub small_offers : (program : Parts) (height : ℕ) (state : Multiset) (offer : Offer) → IsProgram program → IsState program.signature state → Applies program height state offer → AllByRecursion IsSmallTerm offer.values
+  pub small_proofs : (program : Parts) (proof : ProofTree) (a : AtomTree) → IsProgram program → Proves program proof a → HasSmallValues proof
+
+module _ (laws : StepLaws) (program : Parts) (is : IsProgram program) (height : ℕ) (low : height ≤ MOST_HEIGHT) where
+  all_readable : (proofs : List ProofTree) (atoms : List AtomTree) → AreProofs program height proofs atoms → AllByRecursion (IsReadable program) proofs
+  all_readable (proof ∷ proofs) (a ∷ atoms) are = grind (arith, laws.shapes, are.0, laws.small_proofs, are.1, all_readable proofs atoms are.2, are.2)
+  all_readable proofs atoms are = grind arith
+
+  all_derivable : (proofs : List ProofTree) (atoms : List AtomTree) → AreProofs program height proofs atoms → AllByRecursion (IsDerivable program height) atoms
+  all_derivable (proof ∷ proofs) (a ∷ atoms) are = (record { proof = proof; proves = are.0; low = are.1 }, all_derivable proofs atoms are.2)
+  all_derivable proofs atoms are = grind arith
+
+  writable : (old new : Spot) (step : LogStep) → IsState program.signature old.state → IsStepOf program step → IsLegalStep program height old new step → IsWritable program step
+  writable old new step before of legal =
+      let machine = legal.machine in
+      let rule = legal.rule in
+      let backs = full_instances step.offer.values rule.backs in
+      let applies : Applies program height old.state step.offer = record {
+        rule = rule;
+        numbered = machine.numbered;
+        values = machine.values;
+        contained = laws.contained program.signature rule step.offer.values old.state new.state machine.steps.step;
+        derivable = all_derivable step.proofs backs machine.proved;
+      } in
+      record {
+        rule = rule;
+        numbered = machine.numbered;
+        of_rule = subst (λ (found : Option Rule). IsSomeAnd found (λ rule. AreValues program.signature.cons rule.kinds step.offer.values)) (sym machine.numbered) machine.values;
+        small = laws.small_offers program height old.state step.offer is before applies;
+        as_many = of.as_many ∙ ap (λ (rule : Rule). length rule.backs) (some_same of.rule rule (sym of.numbered ∙ machine.numbered));
+        readable = all_readable step.proofs backs machine.proved;
+        stage = legal.stage;
+        in_range = of.in_range;
+        listing = of.listing;
+      }
+
+  state_after : (old new : Spot) (step : LogStep) → IsState program.signature old.state → IsLegalStep program height old new step → IsState program.signature new.state
+  state_after old new step before legal =
+      let machine = legal.machine in
+      let rule = legal.rule in
+      laws.lead program.signature rule step.offer.values old.state new.state (holds_at (IsTypedRule program.signature) program.rules step.offer.rule rule is.typed_rules machine.numbered)
+      (holds_at (IsDividedRule program.signature) program.rules step.offer.rule rule is.divided_rules machine.numbered) machine.values before machine.steps.fit machine.steps.step
+
+  -- All legal steps from a state can be written and read back.
+  pub all_writable : (steps : List LogStep) (old last : Spot) → IsState program.signature old.state → AllByRecursion (IsStepOf program) steps → AreLegalSteps program height steps old last → AllByRecursion (IsWritable program) steps
+  all_writable [] old last before of legal = tt
+  all_writable (step ∷ steps) old last before of legal = grind (arith, writable old legal.0 step before of.0 legal.1, state_after old legal.0 step before legal.1, legal.0, of.0, legal.1, all_writable steps legal.0 last (state_after old legal.0 step before legal.1) of.1 legal.2, of.1, legal.2)
+
+-- The lines of a step, as they are written, are read as the step.
+
+-- the log after which a step or the end is next
+abbrev pub whole_log : SoFar → Option Log
+whole_log Nothing = None
+whole_log (Begun version) = None
+whole_log (Height version height) = None
+whole_log (Whole log) = Some log
+whole_log (Within log step) = None
+whole_log (Unlisted log step) = None
+whole_log (Listed log step mid) = Some (log_listed log step mid)
+whole_log (Ended log end) = None
+
+-- What begins after the log may stand next.
+pub next_stands : (program : Parts) (number : ℕ) (line : List ℕ) (so_far : SoFar) (log : Log) (new : SoFar) → whole_log so_far ≡ Some log → BeginsNext program number line log new → Becomes program number line so_far new
+next_stands program number line so_far log new whole next = grind (arith, none_some, some_same)
+
+-- whether a step has all its own lines
+own_all : (next stage : Option ℕ) (full : Bool) → full ≡ true → next ≡ None → (full && (is_none next || is_some stage)) ≡ true
+own_all next stage full f e = grind arith
+
+own_staged : (next : Option ℕ) (full : Bool) (s : ℕ) → full ≡ true → (full && (is_none next || is_some (Some s))) ≡ true
+own_staged next full s f = grind arith
+
+own_unstaged : (next stage : Option ℕ) (full : Bool) (s : ℕ) → next ≡ Some s → stage ≡ None → (full && (is_none next || is_some stage)) ≡ false
+own_unstaged next stage full s e f = grind arith
+
+own_lacks : (next stage : Option ℕ) (full : Bool) → full ≡ false → (full && (is_none next || is_some stage)) ≡ false
+own_lacks next stage full f = grind arith
+
+module _ (program : Parts) (log : Log) (rule : Rule) where
+  joined_own : (step : LogStep) → has_own_lines rule step ≡ true → with_step rule log step ≡ with_own log step
+  joined_own step own = ap (λ (is : Bool). cond is (with_own log step) (Within log step)) own
+
+  joined_within : (step : LogStep) → has_own_lines rule step ≡ false → with_step rule log step ≡ Within log step
+  joined_within step own = ap (λ (is : Bool). cond is (with_own log step) (Within log step)) own
+
+  -- the stage after all derivations
+  stage_read : (n : ℕ) (step : LogStep) (next : Option ℕ) → rule.next ≡ next → slice_get program.rules step.offer.rule ≡ Some rule → step.stage ≡ None → length step.proofs ≡ length rule.backs
+      → ((stage : ℕ) → next ≡ Some stage → stage < length program.stages)
+      → Leads program n (stage_texts program next) (with_step rule log step) (with_own log (record step { stage = next }))
+  stage_read n step None is numbered no_stage all within = grind (arith, le-leb, own_all, joined_own, rule.backs, step.proofs, rule.next, step.stage)
+  stage_read n step (Some stage) is numbered no_stage all within = grind (arith, le-leb, own_unstaged, own_staged, joined_within, joined_own, rule.backs, step.proofs, rule.next, step.stage)
+
+  -- the derivations that are left, and the stage
+  own_read : (n : ℕ) (step : LogStep) (left : List ProofTree) → slice_get program.rules step.offer.rule ≡ Some rule → step.stage ≡ None → length step.proofs + length left ≡ length rule.backs
+      → AllByRecursion (IsReadable program) left → ((stage : ℕ) → rule.next ≡ Some stage → stage < length program.stages)
+      → Leads program n (map (by_text program) left ++ stage_texts program rule.next) (with_step rule log step)
+      (with_own log (record step { proofs = step.proofs ++ left; stage = rule.next }))
+  own_read n step [] numbered no_stage all readable within = grind (arith, append-nil, stage_read, rule.next, step.proofs)
+  own_read n step (proof ∷ left) numbered no_stage all readable within =
+      let few : length step.proofs < length rule.backs = omega arith in
+      let lacks : has_own_lines rule step ≡ false = own_lacks rule.next step.stage (nat_le (length rule.backs) (length step.proofs)) (lt-leb (length rule.backs) (length step.proofs) few) in
+      let longer = length-append step.proofs (proof ∷ []) in
+      let said : IsByLine program (by_text program proof) proof = record { text = proof_text program proof; proof_is = record { of_clauses = readable.0.of_clauses; small = readable.0.small; low = readable.0.low; text = refl }; written = refl } in (
+        with_step rule log (record step { proofs = step.proofs ++ proof ∷ [] }),
+        subst (λ so_far. MovesOn program n (by_text program proof) so_far (with_step rule log (record step { proofs = step.proofs ++ proof ∷ [] }))) (sym (joined_within step lacks))
+            (inr ((λ e. omega arith), record { rule = rule; numbered = numbered; own = inl (proof, few, said, refl) })),
+        subst (λ proofs. Leads program (n + 1) (map (by_text program) left ++ stage_texts program rule.next) (with_step rule log (record step { proofs = step.proofs ++ proof ∷ [] })) (with_own log (record step { proofs = proofs; stage = rule.next }))) (append_assoc step.proofs (proof ∷ []) left)
+            (own_read (n + 1) (record step { proofs = step.proofs ++ proof ∷ [] }) left numbered no_stage (omega arith) readable.1 within),
+      )
+
+  -- A step, whole.
+  pub step_read : (n : ℕ) (so_far : SoFar) → whole_log so_far ≡ Some log → (offer : Offer) (proofs : List ProofTree) → slice_get program.rules offer.rule ≡ Some rule → IsOfferOf program offer → AllByRecursion IsSmallTerm offer.values → length proofs ≡ length rule.backs
+      → AllByRecursion (IsReadable program) proofs → ((stage : ℕ) → rule.next ≡ Some stage → stage < length program.stages)
+      → Leads program n (step_text program offer ∷ (map (by_text program) proofs ++ stage_texts program rule.next)) so_far
+      (with_own log (record { line = n; offer = offer; proofs = proofs; stage = rule.next; mid = None }))
+  step_read n so_far whole offer proofs numbered of small all readable within = (
+    with_step rule log (step_begun n offer),
+    inr (
+      (λ e. omega arith),
+      next_stands program n (step_text program offer) so_far log (with_step rule log (step_begun n offer)) whole
+          (inl (record { offer = offer; rule = rule; said = record { text = offer_text program offer; offer_is = record { of_rule = of; small = small; text = refl }; written = refl }; numbered = numbered; step = refl })),
+    ),
+    own_read (n + 1) (step_begun n offer) proofs numbered refl (omega arith) readable within,
+  )
+
+-- A legal log, as it is written line by line, is read as a log that says the same.
 
 -- Numbers of lines
 

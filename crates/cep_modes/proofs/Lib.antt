@@ -1,11 +1,4 @@
 pub mod Looping
-pub mod Tables
 pub mod Knowing
-pub mod Flags
-pub mod Gathering
-pub mod Marking
-pub mod Numbering
-pub mod Failing
 pub mod Deciding
-pub mod Orderly
-pub mod Firsts
+pub mod Numbering

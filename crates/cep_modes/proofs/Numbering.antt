@@ -1,8 +1,29 @@
+-- The numbers of pairs, and the clauses and premises that call bad ones.
+use Rattle.std.proofs.Common.{◌≡◌, ◌<◌, ◌+◌, ◌*◌, ◌/◌, ◌%◌, ◌==◌, ℕ, zero, suc, Bool, true, false, cond, refl, ap, ◌∙◌, arith, ◌≢◌, ◌⊎◌, inl, inr, ⊎_elim, ◌&&◌, List, [], ◌∷◌, ◌++◌, slice_get, Some, sym, subst, eq-eqb, length, map, take, drop, ◌≤◌, Option, None}
+use Rattle.cep_term.specs.Tree.{Trees, AtomTree, none, more, Tree, variable, node, Occurs, OccursAmong, IsInRange, AreInRange}
+use Rattle.cep_rule.specs.Groundness.{Known, is_known, positions_known, are_known, known_at, known_after, known_after_all, CallsAt, Calls, LeavesUnknown, SomeFails, nothing, IsBad}
+use Rattle.cep_modes.specs.Places.{positions_of, set_number, room, IsPlain, pair_place, IsAmong, IsPlainClause, places_of, zero_unless, clause_callees, callees_of, holds, rule_places, all_places, callees}
+use Rattle.std.specs.List.{AllByRecursion, Contains}
+use Rattle.std.proofs.lemmas.Bool.Decides.{eqb_tells}
+use Rattle.std.proofs.lemmas.Option.{slice_get-get_or, slice_get_within, get_or_from_slice_get}
+use Rattle.cep_base.proofs.Lists.{none_some, some_same, take_next, get_mapped, holds_at}
+use Rattle.cep_base.proofs.Elements.{contains_none, contains_first, contains_left, contains_right, contains_either, all_at, all_of, both_all}
+use Rattle.cep_rule.specs.Patterns.{ClauseTree}
+use Rattle.std.proofs.lemmas.List.{append-nil, drop_all, take_all, length-map}
+use Rattle.cep_rule.specs.declared.rule.Rule.{Rule}
+use Rattle.cep_rule.specs.Binding.{needed_of}
+use Rattle.cep_modes.specs.Grounding.{AreMarks, AreAllMarks}
+use Rattle.cep_modes.specs.Leading.{TellsBad}
+use Rattle.std.specs.Prelude.{IsSomeAnd}
+use Rattle.cep_rule.specs.declared.signature.Signature.{Signature}
+use Rattle.cep_rule.specs.declared.signature.PredDecl.{PredDecl}
+use Rattle.cep_rule.specs.declared.signature.Con.{Con}
+use Rattle.cep_rule.specs.Limits.{IsSmallSignature, IsSmallRule, IsSmallClause}
+use Rattle.cep_rule.specs.Typing.{HaveSorts, IsTyped}
+use Rattle.cep_rule.specs.Program.{IsTypedRule, IsTypedClause}
+use Rattle.cep_rule.specs.TypeLaws.{TypeLaws}
+
 -- The numbers of pairs: they are in range, and they tell the predicate and the positions.
-use Rattle.std.proofs.Common.{◌≡◌, ◌<◌, ◌+◌, ◌*◌, ◌/◌, ◌%◌, ◌==◌, ℕ, zero, suc, Bool, true, false, cond, refl, ap, ◌∙◌, arith}
-use Rattle.cep_term.specs.Tree.{Trees, AtomTree, none, more}
-use Rattle.cep_rule.specs.Groundness.{Known, is_known, positions_known}
-use Rattle.cep_modes.specs.Places.{positions_of, set_number, room, IsPlain, pair_place, IsAmong}
 
 pub number_low : (known : Known) (args : Trees) → set_number known args < room args
 number_low known none = omega arith
@@ -47,3 +68,325 @@ from_place pairs known goal plain among = grind (arith, number_small known goal 
 
 pub to_place : (pairs : ℕ → Known → Type 0) (known : Known) (goal : AtomTree) → IsPlain 32 goal → pairs goal.pred (positions_known known goal.args) → IsAmong pairs (pair_place known goal)
 to_place pairs known goal plain pair = grind (arith, number_small known goal plain, first_part, second_part, positions_told known goal.args, goal.args, goal.pred)
+
+-- A clause fails by a set of pairs if and only if it calls the number of one, or 0.
+
+-- an unknown variable makes a term unknown
+mutual
+  unknown_term : (known : Known) (v : ℕ) (t : Tree) → Occurs v t → known v ≡ false → is_known known t ≡ false
+  unknown_term known v (variable w) e h = ap known (sym e) ∙ h
+  unknown_term known v (node c args) among h = unknown_args known v args among h
+
+  unknown_args : (known : Known) (v : ℕ) (args : Trees) → OccursAmong v args → known v ≡ false → are_known known args ≡ false
+  unknown_args known v none among h = absurd among
+  unknown_args known v (more t rest) among h =
+      ⊎_elim (λ here. left (is_known known t) (are_known known rest) (unknown_term known v t here h))
+      (λ later. right (is_known known t) (are_known known rest) (unknown_args known v rest later h)) among
+    where
+      left : (a b : Bool) → a ≡ false → (a && b) ≡ false
+      left true b e = cc
+      left false b e = refl
+
+      right : (a b : Bool) → b ≡ false → (a && b) ≡ false
+      right true b e = e
+      right false b e = refl
+
+-- where not all is known, some variable is unknown
+record Unknown (known : Known) (P : ℕ → Type 0) : Type 0 where
+  variable_of : ℕ
+  occurs_there : P variable_of
+  unknown : known variable_of ≡ false
+
+mutual
+  some_unknown : (known : Known) (t : Tree) → is_known known t ≡ false → Unknown known (λ v. Occurs v t)
+  some_unknown known (variable w) e = record { variable_of = w; occurs_there = refl; unknown = e }
+  some_unknown known (node c args) e = some_unknown_among known args e
+
+  some_unknown_among : (known : Known) (args : Trees) → are_known known args ≡ false → Unknown known (λ v. OccursAmong v args)
+  some_unknown_among known none e = absurd (cc)
+  some_unknown_among known (more t rest) e =
+      by known (λ v. Occurs v t) (λ v. OccursAmong v rest) (is_known known t) (are_known known rest) (some_unknown known t) (some_unknown_among known rest) e
+    where
+      by : (known : Known) (P Q : ℕ → Type 0) (a b : Bool) → (a ≡ false → Unknown known P) → (b ≡ false → Unknown known Q) → (a && b) ≡ false → Unknown known (λ v. P v ⊎ Q v)
+      by known P Q true b first second e = let it = second e in record { variable_of = it.variable_of; occurs_there = inr it.occurs_there; unknown = it.unknown }
+      by known P Q false b first second e = let it = first refl in record { variable_of = it.variable_of; occurs_there = inl it.occurs_there; unknown = it.unknown }
+
+-- the number of a pair of the set stands at a place
+pub record AmongAt (pairs : ℕ → Known → Type 0) (numbers : List ℕ) (i : ℕ) : Type 0 where
+  pub number : ℕ
+  pub at : slice_get numbers i ≡ Some number
+  pub among : IsAmong pairs number
+
+pub calls_to : (pairs : ℕ → Known → Type 0) (known : Known) (goals : List AtomTree) (i : ℕ) → AllByRecursion (IsPlain 32) goals → CallsAt pairs known goals i → AmongAt pairs (places_of known goals) i
+calls_to pairs known [] i plain calls = absurd calls
+calls_to pairs known (goal ∷ goals) zero plain calls = record { number = pair_place known goal; at = refl; among = to_place pairs known goal plain.0 calls }
+calls_to pairs known (goal ∷ goals) (suc i) plain calls = let it = calls_to pairs (known_after known goal) goals i plain.1 calls in record { number = it.number; at = it.at; among = it.among }
+
+pub calls_from : (pairs : ℕ → Known → Type 0) (known : Known) (goals : List AtomTree) (i n : ℕ) → AllByRecursion (IsPlain 32) goals → slice_get (places_of known goals) i ≡ Some n → IsAmong pairs n → CallsAt pairs known goals i
+calls_from pairs known [] i n plain at among = none_some n at
+calls_from pairs known (goal ∷ goals) zero n plain at among = from_place pairs known goal plain.0 (subst (IsAmong pairs) (sym (some_same (pair_place known goal) n at)) among)
+calls_from pairs known (goal ∷ goals) (suc i) n plain at among = calls_from pairs (known_after known goal) goals i n plain.1 at among
+
+-- the number of a pair of the set is called
+pub record CallsAmong (pairs : ℕ → Known → Type 0) (numbers : List ℕ) : Type 0 where
+  pub number : ℕ
+  pub called : Contains numbers number
+  pub among : IsAmong pairs number
+
+clause_to : (pairs : ℕ → Known → Type 0) (positions : Known) (clause : ClauseTree) → IsPlainClause 32 clause
+    → Calls pairs (known_at positions clause.head.args) clause.goals ⊎ LeavesUnknown (known_at positions clause.head.args) clause → CallsAmong pairs (clause_callees positions clause)
+clause_to pairs positions clause plain fails =
+    let known : Known = known_at positions clause.head.args in
+    let numbers : List ℕ = places_of known clause.goals in
+    let all : Bool = are_known (known_after_all known clause.goals) clause.head.args in
+    ⊎_elim
+    (λ calls.
+    let it = calls_to pairs known clause.goals calls.0 plain.goals calls.1 in
+    record {
+      number = it.number;
+      called = contains_left numbers (zero_unless all) it.number (calls.0, (slice_get_within numbers calls.0 it.number it.at), (get_or_from_slice_get numbers calls.0 it.number it.number it.at));
+      among = it.among;
+    })
+    (λ leaves.
+    let unknown : all ≡ false = unknown_args (known_after_all known clause.goals) leaves.0 clause.head.args leaves.1 leaves.2 in
+    record {
+      number = 0;
+      called = contains_right numbers (zero_unless all) 0 (subst (λ b. Contains (zero_unless b) 0) (sym unknown) (contains_first 0 []));
+      among = tt;
+    })
+    fails
+
+clause_from : (pairs : ℕ → Known → Type 0) (positions : Known) (clause : ClauseTree) (m : ℕ) → IsPlainClause 32 clause → Contains (clause_callees positions clause) m → IsAmong pairs m
+    → Calls pairs (known_at positions clause.head.args) clause.goals ⊎ LeavesUnknown (known_at positions clause.head.args) clause
+clause_from pairs positions clause m plain called among =
+    let known : Known = known_at positions clause.head.args in
+    let numbers : List ℕ = places_of known clause.goals in
+    let all : Bool = are_known (known_after_all known clause.goals) clause.head.args in
+    ⊎_elim
+    (λ there. inl (there.0, calls_from pairs known clause.goals there.0 m plain.goals (slice_get-get_or numbers there.0 m there.1 ∙ ap Some there.2) among))
+    (λ there. let it = some_unknown_among (known_after_all known clause.goals) clause.head.args (not_all all there) in inr (it.variable_of, it.occurs_there, it.unknown))
+    (contains_either numbers (zero_unless all) m called)
+  where
+    not_all : (b : Bool) → Contains (zero_unless b) m → b ≡ false
+    not_all true there = absurd (contains_none m there)
+    not_all false there = refl
+
+pub fails_to : (pairs : ℕ → Known → Type 0) (pred : ℕ) (positions : Known) (clauses : List ClauseTree) → AllByRecursion (IsPlainClause 32) clauses
+    → SomeFails clauses pairs pred positions → CallsAmong pairs (callees_of pred positions clauses)
+fails_to pairs pred positions [] plain fails = absurd fails
+fails_to pairs pred positions (clause ∷ clauses) plain fails =
+    ⊎_elim
+    (λ here. first (clause.head.pred == pred) (eq-eqb clause.head.pred pred here.0) (clause_to pairs positions clause plain.0 here.1))
+    (λ later. second (clause.head.pred == pred) (fails_to pairs pred positions clauses plain.1 later))
+    fails
+  where
+    first : (b : Bool) → b ≡ true → CallsAmong pairs (clause_callees positions clause)
+        → CallsAmong pairs (cond b (clause_callees positions clause ++ callees_of pred positions clauses) (callees_of pred positions clauses))
+    first true e it = record { number = it.number; called = contains_left (clause_callees positions clause) (callees_of pred positions clauses) it.number it.called; among = it.among }
+    first false e it = absurd (cc)
+
+    second : (b : Bool) → CallsAmong pairs (callees_of pred positions clauses)
+        → CallsAmong pairs (cond b (clause_callees positions clause ++ callees_of pred positions clauses) (callees_of pred positions clauses))
+    second true it = record { number = it.number; called = contains_right (clause_callees positions clause) (callees_of pred positions clauses) it.number it.called; among = it.among }
+    second false it = it
+
+pub fails_from : (pairs : ℕ → Known → Type 0) (pred : ℕ) (positions : Known) (clauses : List ClauseTree) (m : ℕ) → AllByRecursion (IsPlainClause 32) clauses
+    → Contains (callees_of pred positions clauses) m → IsAmong pairs m → SomeFails clauses pairs pred positions
+fails_from pairs pred positions [] m plain called among = absurd (contains_none m called)
+fails_from pairs pred positions (clause ∷ clauses) m plain called among =
+    by (clause.head.pred == pred) (eqb_tells clause.head.pred pred) called (λ there. fails_from pairs pred positions clauses m plain.1 there among)
+  where
+    by : (b : Bool) → ((b ≡ true) × (clause.head.pred ≡ pred)) ⊎ ((b ≡ false) × (clause.head.pred ≢ pred))
+        → Contains (cond b (clause_callees positions clause ++ callees_of pred positions clauses) (callees_of pred positions clauses)) m
+        → (Contains (callees_of pred positions clauses) m → SomeFails clauses pairs pred positions)
+        → SomeFails (clause ∷ clauses) pairs pred positions
+    by true tells there rest =
+        ⊎_elim
+        (λ here. inl ((⊎_elim (λ same. same.1) (λ other. let e : true ≡ false = other.0 in absurd (cc)) tells), clause_from pairs positions clause m plain.0 here among))
+        (λ later. inr (rest later))
+        (contains_either (clause_callees positions clause) (callees_of pred positions clauses) m there)
+    by false tells there rest = inr (rest there)
+
+-- The premises that are marked are those that call bad pairs.
+
+-- all that is written into a whole slice stands there
+pub written : (n : ℕ) (new old : List Bool) → length new ≡ length old → n ≡ length old → take n (new ++ drop (length new) old) ≡ new
+written n new old same long = grind (arith, drop_all, append-nil, take_all)
+
+there : (numbers : List ℕ) (i n : ℕ) → slice_get numbers i ≡ Some n → Contains numbers n
+there numbers i n at = (i, (slice_get_within numbers i n at), (get_or_from_slice_get numbers i n n at))
+
+among_all : (rules : List Rule) (r : ℕ) (rule : Rule) (n : ℕ) → slice_get rules r ≡ Some rule → Contains (rule_places rule) n → Contains (all_places rules) n
+among_all [] r rule n at here = none_some rule at
+among_all (one ∷ rules) zero rule n at here = contains_left (rule_places one) (all_places rules) n (subst (λ x. Contains (rule_places x) n) (sym (some_same one rule at)) here)
+among_all (one ∷ rules) (suc r) rule n at here = contains_right (rule_places one) (all_places rules) n (among_all rules r rule n at here)
+
+-- the numbers of a rule are in range
+pub rule_within : (clauses : List ClauseTree) (rules : List Rule) (marked : List Bool) (r : ℕ) (rule : Rule) → TellsBad clauses (all_places rules) marked → slice_get rules r ≡ Some rule
+    → AllByRecursion (λ n. n < length marked) (rule_places rule)
+rule_within clauses rules marked r rule tells at =
+    all_of (λ n. n < length marked) (rule_places rule) (λ n here. all_at (λ m. m < length marked) (all_places rules) n tells.within (among_all rules r rule n at here))
+
+-- what is marked at a place of an image
+mapped_true : (marked : List Bool) (numbers : List ℕ) (i : ℕ) → slice_get (map (holds marked) numbers) i ≡ Some true → (n : ℕ) × (slice_get numbers i ≡ Some n) × (holds marked n ≡ true)
+mapped_true marked [] i is = none_some true is
+mapped_true marked (n ∷ numbers) zero is = (n, refl, some_same (holds marked n) true is)
+mapped_true marked (n ∷ numbers) (suc i) is = mapped_true marked numbers i is
+
+places_size : (known : Known) (goals : List AtomTree) → length (places_of known goals) ≡ length goals
+places_size known [] = refl
+places_size known (goal ∷ goals) = ap suc (places_size (known_after known goal) goals)
+
+-- the marks of a rule say which of its backward premises call bad pairs
+pub marks_say : (clauses : List ClauseTree) (rules : List Rule) (marked : List Bool) (r : ℕ) (rule : Rule) (marks : List Bool) → TellsBad clauses (all_places rules) marked → slice_get rules r ≡ Some rule
+    → AllByRecursion (IsPlain 32) rule.backs → marks ≡ map (holds marked) (rule_places rule) → AreMarks clauses rule marks
+marks_say clauses rules marked r rule marks tells at plain same = record {
+  as_many = ap length same ∙ length-map (rule_places rule) (holds marked) ∙ places_size (known_after_all nothing (needed_of rule)) rule.backs;
+  each = λ i within. (
+    (λ yes_.
+        let it = mapped_true marked (rule_places rule) i (ap (λ ms. slice_get ms i) (sym same) ∙ yes_) in
+        calls_from (IsBad clauses) (known_after_all nothing (needed_of rule)) rule.backs i it.0 plain it.1
+        ((tells.told it.0 (among_all rules r rule it.0 at (there (rule_places rule) i it.0 it.1))).0 it.2)),
+    (λ bad.
+        let it = calls_to (IsBad clauses) (known_after_all nothing (needed_of rule)) rule.backs i plain bad in
+        let yes_ : holds marked it.number ≡ true = (tells.told it.number (among_all rules r rule it.number at (there (rule_places rule) i it.number it.at))).1 it.among in
+        ap (λ ms. slice_get ms i) same ∙ get_mapped (holds marked) (rule_places rule) i it.number it.at ∙ ap Some yes_),
+  );
+}
+
+-- the marks of one rule more
+both_marks : (clauses : List ClauseTree) (rules : List Rule) (lists : List (List Bool)) (rule : Rule) (marks : List Bool) → AreAllMarks clauses rules lists → AreMarks clauses rule marks → AreAllMarks clauses (rules ++ rule ∷ []) (lists ++ marks ∷ [])
+both_marks clauses [] [] rule marks are now = (now, tt)
+both_marks clauses [] (ms ∷ lists) rule marks are now = absurd are
+both_marks clauses (q ∷ rules) [] rule marks are now = absurd are
+both_marks clauses (q ∷ rules) (ms ∷ lists) rule marks are now = (are.0, both_marks clauses rules lists rule marks are.1 now)
+
+pub one_more_marked : (clauses : List ClauseTree) (rules : List Rule) (r : ℕ) (rule : Rule) (old new : List (List Bool)) (marks : List Bool) → slice_get rules r ≡ Some rule
+    → AreAllMarks clauses (take r rules) old → AreMarks clauses rule marks → new ≡ old ++ marks ∷ [] → AreAllMarks clauses (take (r + 1) rules) new
+one_more_marked clauses rules r rule old new marks at before now same = grind (arith, take_next rules r rule, both_marks clauses (take r rules) old rule marks before now)
+
+-- What parts that are in order keep: their atoms are plain, and all numbers of pairs are in range.
+
+-- so many things that each are or are not
+doubled : ℕ → ℕ
+doubled zero = 1
+doubled (suc k) = 2 * doubled k
+
+room_low : (cons : List Con) (kinds sorts : List ℕ) (args : Trees) (k : ℕ) → HaveSorts cons kinds sorts args → length sorts ≤ k → room args ≤ doubled k
+unfolding doubled
+room_low cons kinds [] none zero typed few = omega arith
+room_low cons kinds [] none (suc k) typed few = let rest : 1 ≤ doubled k = room_low cons kinds [] none k tt (omega arith) in omega arith
+room_low cons kinds [] (more t args) k typed few = absurd typed
+room_low cons kinds (sort ∷ sorts) none k typed few = absurd typed
+room_low cons kinds (sort ∷ sorts) (more t args) zero typed few = absurd (omega arith)
+room_low cons kinds (sort ∷ sorts) (more t args) (suc k) typed few = let rest : room args ≤ doubled k = room_low cons kinds sorts args k typed.1 (omega arith) in omega arith
+
+sets_of_eight : (n : ℕ) → n ≤ doubled 8 → n ≤ 256
+unfolding doubled
+sets_of_eight n low = low
+
+mutual
+  term_in_more : (few many : ℕ) → few ≤ many → (t : Tree) → IsInRange few t → IsInRange many t
+  term_in_more few many le (variable v) low = omega arith
+  term_in_more few many le (node c args) low = in_more few many le args low
+
+  in_more : (few many : ℕ) → few ≤ many → (args : Trees) → AreInRange few args → AreInRange many args
+  in_more few many le none low = tt
+  in_more few many le (more t rest) low = (term_in_more few many le t low.0, in_more few many le rest low.1)
+
+-- An atom is plain, and its predicate is one of so many.
+pub record IsFine (preds : ℕ) (a : AtomTree) : Type 0 where
+  pub plain : IsPlain 32 a
+  pub declared : a.pred < preds
+
+fine : TypeLaws → (signature : Signature) → IsSmallSignature signature → (kinds : List ℕ) (a : AtomTree) → length kinds ≤ 32 → IsTyped signature kinds a → IsFine (length signature.preds) a
+fine laws signature small kinds a few typed =
+    by (slice_get signature.preds a.pred) refl typed
+  where
+    by : (found : Option PredDecl) → slice_get signature.preds a.pred ≡ found → IsSomeAnd found (λ pred. HaveSorts signature.cons kinds pred.args a.args) → IsFine (length signature.preds) a
+    by None at sorts = absurd sorts
+    by (Some pred) at sorts = record {
+      plain = record {
+        few = sets_of_eight (room a.args) (room_low signature.cons kinds pred.args a.args 8 sorts (holds_at (λ (p : PredDecl). length p.args ≤ 8) signature.preds a.pred pred small.pred_args at));
+        in_range = in_more (length kinds) 32 few a.args (laws.in_range signature kinds a typed);
+      };
+      declared = slice_get_within signature.preds a.pred pred at;
+    }
+
+fine_atoms : TypeLaws → (signature : Signature) → IsSmallSignature signature → (kinds : List ℕ) (atoms : List AtomTree) → length kinds ≤ 32
+    → AllByRecursion (IsTyped signature kinds) atoms → AllByRecursion (IsFine (length signature.preds)) atoms
+fine_atoms laws signature small kinds [] few typed = tt
+fine_atoms laws signature small kinds (a ∷ atoms) few typed = (fine laws signature small kinds a few typed.0, fine_atoms laws signature small kinds atoms few typed.1)
+
+plain_atoms : (preds : ℕ) (atoms : List AtomTree) → AllByRecursion (IsFine preds) atoms → AllByRecursion (IsPlain 32) atoms
+plain_atoms preds [] all = tt
+plain_atoms preds (a ∷ atoms) all = (all.0.plain, plain_atoms preds atoms all.1)
+
+-- The atoms of a clause are so.
+pub record IsFineClause (preds : ℕ) (clause : ClauseTree) : Type 0 where
+  pub head : IsFine preds clause.head
+  pub goals : AllByRecursion (IsFine preds) clause.goals
+
+pub fine_clauses : TypeLaws → (signature : Signature) → IsSmallSignature signature → (clauses : List ClauseTree)
+    → AllByRecursion IsSmallClause clauses → AllByRecursion (IsTypedClause signature) clauses → AllByRecursion (IsFineClause (length signature.preds)) clauses
+fine_clauses laws signature small [] few typed = tt
+fine_clauses laws signature small (clause ∷ clauses) few typed =
+    let vars : length clause.vars ≤ 32 = few.0.vars in
+    let kinds : length clause.kinds ≤ 32 = omega (arith, typed.0.kinds) in (
+      record {
+        head = fine laws signature small clause.kinds clause.head kinds typed.0.head;
+        goals = fine_atoms laws signature small clause.kinds clause.goals kinds typed.0.goals;
+      },
+      fine_clauses laws signature small clauses few.1 typed.1,
+    )
+
+pub plain_clauses : (preds : ℕ) (clauses : List ClauseTree) → AllByRecursion (IsFineClause preds) clauses → AllByRecursion (IsPlainClause 32) clauses
+plain_clauses preds [] all = tt
+plain_clauses preds (clause ∷ clauses) all = (record { head = all.0.head.plain; goals = plain_atoms preds clause.goals all.0.goals }, plain_clauses preds clauses all.1)
+
+-- The premises of a rule are so.
+pub record IsFineRule (preds : ℕ) (rule : Rule) : Type 0 where
+  pub premises : AllByRecursion (IsFine preds) (needed_of rule)
+  pub backs : AllByRecursion (IsFine preds) rule.backs
+
+pub fine_rules : TypeLaws → (signature : Signature) → IsSmallSignature signature → (rules : List Rule)
+    → AllByRecursion IsSmallRule rules → AllByRecursion (IsTypedRule signature) rules → AllByRecursion (IsFineRule (length signature.preds)) rules
+fine_rules laws signature small [] few typed = tt
+fine_rules laws signature small (rule ∷ rules) few typed =
+    let vars : length rule.vars ≤ 32 = few.0.vars in
+    let kinds : length rule.kinds ≤ 32 = omega (arith, typed.0.kinds) in (
+      record {
+        premises = fine_atoms laws signature small rule.kinds (needed_of rule) kinds typed.0.premises;
+        backs = fine_atoms laws signature small rule.kinds rule.backs kinds typed.0.backs;
+      },
+      fine_rules laws signature small rules few.1 typed.1,
+    )
+
+pub plain_premises : (preds : ℕ) (rules : List Rule) → AllByRecursion (IsFineRule preds) rules → AllByRecursion (λ rule. AllByRecursion (IsPlain 32) (needed_of rule)) rules
+plain_premises preds [] all = tt
+plain_premises preds (rule ∷ rules) all = (plain_atoms preds (needed_of rule) all.0.premises, plain_premises preds rules all.1)
+
+pub plain_backs : (preds : ℕ) (rules : List Rule) → AllByRecursion (IsFineRule preds) rules → AllByRecursion (λ rule. AllByRecursion (IsPlain 32) rule.backs) rules
+plain_backs preds [] all = tt
+plain_backs preds (rule ∷ rules) all = (plain_atoms preds rule.backs all.0.backs, plain_backs preds rules all.1)
+
+-- the numbers that goals call are in range
+places_low : (preds : ℕ) (known : Known) (goals : List AtomTree) → AllByRecursion (IsFine preds) goals → AllByRecursion (λ n. n < preds * 256 + 1) (places_of known goals)
+places_low preds known [] all = tt
+places_low preds known (goal ∷ goals) all = (place_low preds known goal all.0.plain all.0.declared, places_low preds (known_after known goal) goals all.1)
+
+zero_low : (size : ℕ) → 0 < size → (b : Bool) → AllByRecursion (λ n. n < size) (zero_unless b)
+zero_low size low true = tt
+zero_low size low false = (low, tt)
+
+callees_of_low : (preds pred : ℕ) (positions : Known) (clauses : List ClauseTree) → AllByRecursion (IsFineClause preds) clauses → AllByRecursion (λ n. n < preds * 256 + 1) (callees_of pred positions clauses)
+callees_of_low preds pred positions [] all = tt
+callees_of_low preds pred positions (clause ∷ clauses) all = grind (arith, both_all, places_low, zero_low, clause.head.args, clause.head.pred, clause.goals, all.0.goals, callees_of_low preds pred positions clauses all.1, all.1)
+
+pub callees_low : (preds : ℕ) (clauses : List ClauseTree) → AllByRecursion (IsFineClause preds) clauses → (n : ℕ) → AllByRecursion (λ m. m < preds * 256 + 1) (callees clauses n)
+callees_low preds clauses all zero = tt
+callees_low preds clauses all (suc n) = callees_of_low preds (n / 256) (positions_of (n % 256)) clauses all
+
+pub all_low : (preds : ℕ) (rules : List Rule) → AllByRecursion (IsFineRule preds) rules → AllByRecursion (λ n. n < preds * 256 + 1) (all_places rules)
+all_low preds [] all = tt
+all_low preds (rule ∷ rules) all = grind (arith, both_all, places_low, rule.backs, all.0.backs, all_low preds rules all.1, all.1)

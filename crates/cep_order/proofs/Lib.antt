@@ -1,11 +1,4 @@
-mod Flagging
 mod Trees
-mod Times
-mod Linking
 mod Releasing
-mod Parts
-mod Listed
-mod Untaken
 mod SoFar
-mod OneMore
 mod OneOrder

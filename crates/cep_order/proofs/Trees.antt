@@ -1,13 +1,99 @@
--- Trees of counts.
-use Rattle.std.proofs.Common.{◌≡◌, ◌≢◌, ⊎_elim, ℕ, zero, suc, ◌+◌, ◌-◌, ◌*◌, ◌/◌, ◌^◌, ◌<◌, ◌≤◌, Bool, List, length, get_or, set, replicate, refl, ap, ◌∙◌, arith, length-set, add-one}
+-- Flags that are set, counted and listed, and trees of counts.
+use Rattle.std.proofs.Common.{◌≡◌, ◌⊎◌, ⊎_elim, ℕ, suc, ◌+◌, ◌<◌, ◌≤◌, Bool, true, false, cond, List, [], ◌∷◌, length, get_or, take, set, refl, sym, ap, ◌∙◌, arith, Some, zero, subst, Contains, ◌≢◌, ◌-◌, ◌*◌, ◌/◌, ◌^◌, replicate, length-set, add-one}
+use Rattle.std.specs.Prelude.{slice_get, count_by}
+use Rattle.std.proofs.lemmas.List.{length-take, get_or-take, take-set-le, take-take, take_all, get_or_past, get_or-set_same, get_or-set_other, get_or-replicate, length-replicate}
+use Rattle.std.proofs.lemmas.Bool.{cases_lt, false≢true, cases_eq}
+use Rattle.std.proofs.Math.Seq.{take-set-lt}
+use Rattle.std.proofs.lemmas.List.Sums.{sum_by-set, sum_by-cons, count_by-le-length, sum_by-take-le}
+use Rattle.cep_order.specs.Flags.{set_before, set_places_from, set_places}
+use Rattle.std.specs.List.Sorted.{IsStrictlyIncreasing}
+use Rattle.std.proofs.lemmas.List.Elements.{Contains-get_or}
+use Rattle.cep_base.proofs.Elements.{contains_none, contains_cases, contains_at}
 use Rattle.std.proofs.Math.Nat.{pow-succ', le-mul_of_pos_right}
 use Rattle.std.proofs.lemmas.Nat.{pow_pos}
-use Rattle.std.proofs.lemmas.Bool.{cases_lt, cases_eq}
 use Rattle.std.proofs.lemmas.Bool.Decides.{nat_tests}
-use Rattle.std.proofs.lemmas.List.{get_or-set_same, get_or-set_other, get_or-replicate, get_or_past, length-replicate}
-use Rattle.cep_order.specs.Flags.{set_before}
 use Rattle.cep_order.specs.Counts.{Counts, only_at, IsNearly, IsTree}
-use Rattle.cep_order.proofs.Flagging.{written_after, counted_more, set_few, all_before}
+
+-- Flags that are set, counted and listed.
+
+-- a flag is set or not
+pub on_or_off : (flag : Bool) → (flag ≡ true) ⊎ (flag ≡ false)
+on_or_off flag = grind arith
+
+-- one flag more in front
+one_more : (flag : Bool) (flags : List Bool) (x : ℕ) → set_before (flag ∷ flags) (suc x) ≡ cond flag 1 0 + set_before flags x
+one_more flag flags x = sum_by-cons (λ f. cond f 1 0) flag (take x flags)
+
+-- a flag that is set is one of them
+pub on_within : (flags : List Bool) (place : ℕ) → get_or flags place false ≡ true → place < length flags
+on_within flags place on = ⊎_elim (λ less. less) (λ past. absurd (false≢true (sym (get_or_past flags place false past) ∙ on))) (cases_lt place (length flags))
+
+-- A flag that is written counts only at later places.
+pub written_after : (flags : List Bool) (place x : ℕ) (flag : Bool) → x ≤ place → set_before (set flags place flag) x ≡ set_before flags x
+written_after flags place x flag later = ap (count_by (λ f. f)) (take-set-le x flags place flag later)
+
+pub set_counts : (flags : List Bool) (place x : ℕ) → place < length flags → place < x → get_or flags place false ≡ false → set_before (set flags place true) x ≡ set_before flags x + 1
+set_counts flags place x within before off = grind (arith, take-set-lt, sum_by-set, length-take, get_or-take)
+
+pub unset_counts : (flags : List Bool) (place x : ℕ) → place < length flags → place < x → get_or flags place false ≡ true → set_before flags x ≡ set_before (set flags place false) x + 1
+unset_counts flags place x within before on = grind (arith, take-set-lt, sum_by-set, length-take, get_or-take)
+
+-- no more are set than there are
+pub set_few : (flags : List Bool) (x : ℕ) → set_before flags x ≤ length flags
+set_few flags x = omega (arith, sum_by-take-le (λ f. cond f 1 0) flags x, count_by-le-length (λ f. f) flags)
+
+-- no fewer are set before a later place
+pub counted_more : (flags : List Bool) (x y : ℕ) → x ≤ y → set_before flags x ≤ set_before flags y
+counted_more flags x y le = omega (arith, sum_by-take-le (λ f. cond f 1 0) (take y flags) x, ap (count_by (λ f. f)) (take-take x y flags le))
+
+-- beyond the end all are counted
+pub all_before : (flags : List Bool) (x : ℕ) → length flags ≤ x → set_before flags x ≡ set_before flags (length flags)
+all_before flags x beyond = ap (count_by (λ f. f)) (take_all x flags beyond ∙ sym (take_all (length flags) flags (omega arith)))
+
+-- as many places as flags that are set
+pub as_many : (from : ℕ) (flags : List Bool) → length (set_places_from from flags) ≡ set_before flags (length flags)
+as_many from [] = refl
+as_many from (true ∷ flags) = omega (arith, one_more true flags (length flags), as_many (from + 1) flags)
+as_many from (false ∷ flags) = omega (arith, one_more false flags (length flags), as_many (from + 1) flags)
+
+-- A flag that is set stands in the list of places, after those before it.
+pub place_found : (from : ℕ) (flags : List Bool) (place : ℕ) → get_or flags place false ≡ true → slice_get (set_places_from from flags) (set_before flags place) ≡ Some (from + place)
+place_found from (true ∷ flags) (suc place) on = grind (arith, one_more true flags place, place_found (from + 1) flags place on)
+place_found from (false ∷ flags) (suc place) on = grind (arith, one_more, place_found (from + 1) flags place on)
+place_found from flags place on = grind arith
+
+-- The places of flags that are set, as a list.
+
+pub listed : (flags : List Bool) (place : ℕ) → get_or flags place false ≡ true → Contains (set_places flags) place
+listed flags place on = subst (λ n. Contains (set_places flags) n) (omega arith) (contains_at (set_places flags) (set_before flags place) (0 + place) (place_found 0 flags place on))
+
+listed_from : (from : ℕ) (flags : List Bool) (place : ℕ) → Contains (set_places_from from flags) place → (q : ℕ) × (place ≡ from + q) × (get_or flags q false ≡ true)
+listed_from from [] place there = absurd (contains_none place there)
+listed_from from (false ∷ flags) place there = let is = listed_from (from + 1) flags place there in (suc is.0, omega (arith, is.1), is.2)
+listed_from from (true ∷ flags) place there =
+    ⊎_elim
+    (λ same. (0, omega arith, refl))
+    (λ later. let is = listed_from (from + 1) flags place later in (suc is.0, omega (arith, is.1), is.2))
+    (contains_cases from (set_places_from (from + 1) flags) place there)
+
+pub set_there : (flags : List Bool) (place : ℕ) → Contains (set_places flags) place → get_or flags place false ≡ true
+set_there flags place there = let is = listed_from 0 flags place there in let same : place ≡ is.0 = omega (arith, is.1) in ap (λ n. get_or flags n false) same ∙ is.2
+
+increasing_from : (from : ℕ) (flags : List Bool) → IsStrictlyIncreasing (set_places_from from flags)
+increasing_from from [] k within = absurd (omega arith)
+increasing_from from (false ∷ flags) k within = increasing_from (from + 1) flags k within
+increasing_from from (true ∷ flags) zero within =
+    let later = set_places_from (from + 1) flags in
+    omega (arith, (listed_from (from + 1) flags (get_or later 0 0) (Contains-get_or later 0 0 (omega arith))).1)
+increasing_from from (true ∷ flags) (suc k) within =
+    let later = set_places_from (from + 1) flags in
+    let next : suc k + 1 ≡ suc (k + 1) = omega arith in
+    subst (λ n. get_or later k 0 < get_or (from ∷ later) n 0) (sym next) (increasing_from (from + 1) flags k (omega arith))
+
+pub increasing : (flags : List Bool) → IsStrictlyIncreasing (set_places flags)
+increasing flags = increasing_from 0 flags
+
+-- Trees of counts.
 
 all_here : (here amount node : ℕ) → node ≡ here → only_at here amount node ≡ amount
 all_here here amount node same = grind (arith, nat_tests)

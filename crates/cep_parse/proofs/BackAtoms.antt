@@ -1,23 +1,68 @@
--- What may stand after a symbol and an atom may, with the symbol, stand after the atom before it.
-use Rattle.std.proofs.Common.{◌≡◌, ℕ, ◌+◌, List, [], ◌∷◌, ◌++◌, length, refl, sym, ap, subst, ◌∙◌, arith, append_assoc}
-use Rattle.std.proofs.lemmas.List.{append-nil}
-use Rattle.cep_parse.specs.declared.raw.Span.{Span}
-use Rattle.cep_parse.specs.declared.raw.RawAtom.{RawAtom}
+-- Atoms: their nodes, and the derivations that run to them.
+use Rattle.std.proofs.Common.{◌≡◌, ℕ, suc, ◌+◌, ◌<◌, ◌≤◌, List, [], ◌∷◌, ◌++◌, length, get_or, set, take, Some, refl, sym, ap, ◌∙◌, arith, subst, append_assoc, map, None, length-append}
+use Rattle.std.proofs.lemmas.List.{take_more, length_push, map-append, append-nil}
 use Rattle.cep_parse.specs.declared.raw.RawKind.TheVariants.{App}
 use Rattle.cep_parse.specs.declared.raw.RawNode.{RawNode}
+use Rattle.cep_parse.specs.declared.raw.Span.{Span}
+use Rattle.std.specs.List.{slice_get}
+use Rattle.cep_parse.specs.declared.state.AtomSoFar.{AtomSoFar}
+use Rattle.cep_parse.specs.Grammar.{node, at, Arg, Term, Args}
+use Rattle.cep_parse.specs.declared.state.Growth.{Growth}
+use Rattle.cep_parse.specs.declared.state.Growth.TheVariants as growth
+use Rattle.cep_parse.specs.Machine.{set_args, atom_of_names, grown_to, leaf, child_in}
+use Rattle.cep_parse.specs.Machine.Grown.{Going}
+use Rattle.cep_parse.specs.declared.raw.RawAtom.{RawAtom}
 use Rattle.cep_parse.specs.declared.symbol.Symbol.{Symbol}
 use Rattle.cep_parse.specs.declared.symbol.Word.TheVariants as word
 use Rattle.cep_parse.specs.declared.levels.Level.{Level}
 use Rattle.cep_parse.specs.declared.levels.Level.TheVariants.{Empty, Node, Whole}
-use Rattle.cep_parse.specs.declared.state.AtomSoFar.{AtomSoFar}
-use Rattle.cep_parse.specs.Grammar.{at, node, Arg, Term}
-use Rattle.cep_parse.specs.Grammar.Arg.{arg_term}
-use Rattle.cep_parse.specs.Grammar.Term.{applied, nested}
+use Rattle.cep_parse.specs.Grammar.Arg.{arg_term, arg_name, arg_variable, arg_blank}
+use Rattle.cep_parse.specs.Grammar.Term.{applied, nested, variable, blank}
 use Rattle.cep_parse.specs.Grammar.Args.{no_args, more_args}
-use Rattle.cep_parse.specs.Machine.{child_in, set_args}
-use Rattle.cep_parse.proofs.Nodes.{set_args_at}
-use Rattle.cep_parse.proofs.Residual.{UpFlat, UpArgs, UpWhole, Up, AtomRest}
-use Rattle.cep_parse.proofs.Runs.{TakesArgs}
+use Rattle.cep_parse.proofs.Runs.{UpFlat, UpArgs, UpWhole, Up, AtomRest, TakesArgs, atom_at, more_args_in, run}
+use Rattle.cep_parse.specs.declared.raw.RawItem.{RawItem}
+use Rattle.cep_parse.specs.declared.symbol.Word.{Word}
+use Rattle.cep_parse.specs.declared.state.State.{State}
+use Rattle.cep_parse.specs.declared.state.State.TheVariants as state
+use Rattle.cep_parse.specs.declared.state.Use.{Use}
+use Rattle.cep_parse.specs.declared.state.Use.TheVariants as use_
+use Rattle.cep_parse.proofs.Runs.TakesArgs.{flat, within}
+
+-- The nodes of an atom: their arguments, and those of names.
+
+-- as a write of the one node
+pub set_args_is : (nodes : List RawNode) (index args : ℕ) (d : RawNode) → index < length nodes → set nodes index (record { at = (get_or nodes index d).at; kind = (get_or nodes index d).kind; args = args }) ≡ set_args nodes index args
+set_args_is (n ∷ nodes) (suc index) args d in_bounds = ap (λ ns. n ∷ ns) (set_args_is nodes index args d (omega arith))
+set_args_is nodes index args d in_bounds = grind arith
+
+-- past the end nothing changes
+pub set_args_past : (nodes : List RawNode) (index args : ℕ) → length nodes ≤ index → nodes ≡ set_args nodes index args
+set_args_past (n ∷ nodes) (suc index) args past = ap (λ ns. n ∷ ns) (set_args_past nodes index args (omega arith))
+set_args_past nodes index args past = grind arith
+
+-- at the node after others
+pub set_args_at : (nodes others : List RawNode) (n : RawNode) (args : ℕ) → set_args (nodes ++ n ∷ others) (length nodes) args ≡ nodes ++ node n.kind n.at args ∷ others
+set_args_at [] others n args = refl
+set_args_at (m ∷ nodes) others n args = ap (λ ns. m ∷ ns) (set_args_at nodes others n args)
+
+-- as a write of the node that was read
+pub set_args_read : (nodes : List RawNode) (index args : ℕ) (n : RawNode) → slice_get nodes index ≡ Some n → set nodes index (record { at = n.at; kind = n.kind; args = args }) ≡ set_args nodes index args
+set_args_read (m ∷ nodes) (suc index) args n is = ap (λ ns. m ∷ ns) (set_args_read nodes index args n is)
+set_args_read nodes index args n is = grind arith
+
+-- an atom that goes on
+pub still_going : (growth : Growth) (a b : AtomSoFar) → grown_to growth a ≡ Going b → a ≡ b
+still_going growth a b is = grind arith
+
+names_more : (name : Span) (names : List Span) (more : Span) → leaf (atom_of_names name names) App more ≡ atom_of_names name (names ++ more ∷ [])
+names_more name names more = λ j. record { name = name; args = sym (length_push names more) j; nodes = sym (map-append (λ a. node App a 0) names (more ∷ [])) j; levels = [] }
+
+-- one more name as an argument
+pub names_next : (atom : AtomSoFar) (name : Span) (items : List Span) (i : ℕ) (d : Span) → i < length items → atom ≡ atom_of_names name (take i items)
+    → leaf atom App (get_or items i d) ≡ atom_of_names name (take (i + 1) items)
+names_next atom name items i d in_bounds is = ap (λ a. leaf a App (get_or items i d)) is ∙ names_more name (take i items) (get_or items i d) ∙ ap (atom_of_names name) (sym (take_more items i d in_bounds))
+
+-- What may stand after a symbol and an atom may, with the symbol, stand after the atom before it.
 
 -- what completes an atom so far
 abbrev pub RestOf : AtomSoFar → List Symbol → RawAtom → Type 0
@@ -117,3 +162,98 @@ whole_back levels x name args nodes part atom up = record { close = x; rest = pa
 -- an atom may end where arguments are read
 pub flat_ends : (name : Span) (args : ℕ) (nodes : List RawNode) → AtomRest [] name args nodes [] (record { name = name; args = args; nodes = nodes })
 flat_ends name args nodes = record { count = 0; more = []; read = no_args; is = let e : args ≡ args + 0 = omega arith in λ i. record { name = name; args = e i; nodes = sym (append-nil nodes) i } }
+
+-- A derivation of an atom runs to the atom.
+
+-- the atom after a term that ended
+abbrev pub behind_term : Span → ℕ → List RawNode → List Level → Use → State
+behind_term name args nodes levels used = state.Atom (child_in levels (record { name = name; args = args; nodes = nodes; levels = levels })) used
+
+mutual
+  -- an argument
+  pub arg_runs : (symbols : List Symbol) (more : List RawNode) → Arg symbols more
+      → (items : List RawItem) (name : Span) (args : ℕ) (nodes : List RawNode) (levels : List Level) (used : Use) (rest : List Symbol) → TakesArgs levels
+      → run items (atom_at name args nodes levels used) (symbols ++ rest) ≡ run items (behind_term name args (nodes ++ more) levels used) rest
+  arg_runs symbols more (arg_name a) items name args nodes levels used rest flat = refl
+  arg_runs symbols more (arg_name a) items name args nodes levels used rest (within index count lower) = refl
+  arg_runs symbols more (arg_variable a) items name args nodes levels used rest flat = refl
+  arg_runs symbols more (arg_variable a) items name args nodes levels used rest (within index count lower) = refl
+  arg_runs symbols more (arg_blank a) items name args nodes levels used rest flat = refl
+  arg_runs symbols more (arg_blank a) items name args nodes levels used rest (within index count lower) = refl
+  arg_runs symbols more (arg_term open_ close inner more' term) items name args nodes levels used rest flat =
+      ap (run items (atom_at name args nodes (Empty ∷ []) used)) (append_assoc inner (at word.Close close ∷ []) rest) ∙ term_runs inner more' term items name args nodes [] used close rest
+  arg_runs symbols more (arg_term open_ close inner more' term) items name args nodes levels used rest (within index count lower) =
+      ap (run items (atom_at name args nodes (Empty ∷ Node index count ∷ lower) used)) (append_assoc inner (at word.Close close ∷ []) rest) ∙ term_runs inner more' term items name args nodes (Node index count ∷ lower) used close rest
+
+  -- a term after its parenthesis, with the one that closes it
+  pub term_runs : (symbols : List Symbol) (more : List RawNode) → Term symbols more
+      → (items : List RawItem) (name : Span) (args : ℕ) (nodes : List RawNode) (levels : List Level) (used : Use) (close : Span) (rest : List Symbol)
+      → run items (atom_at name args nodes (Empty ∷ levels) used) (symbols ++ at word.Close close ∷ rest) ≡ run items (behind_term name args (nodes ++ more) levels used) rest
+  term_runs symbols more (applied a inner count others args') items name args nodes levels used close rest =
+      args_run inner count others args' items name args (nodes ++ node App a 0 ∷ []) (Node (length nodes) 0 ∷ levels) used (at word.Close close ∷ rest) (within (length nodes) 0 levels)
+      ∙ (let e : set_args ((nodes ++ node App a 0 ∷ []) ++ others) (length nodes) (0 + count) ≡ nodes ++ node App a count ∷ others =
+      ap (λ ns. set_args ns (length nodes) (0 + count)) (append_assoc nodes (node App a 0 ∷ []) others) ∙ set_args_at nodes others (node App a 0) (0 + count) ∙ ap (λ n. nodes ++ node App a n ∷ others) (omega arith) in
+      ap (λ ns. run items (behind_term name args ns levels used) rest) e)
+  term_runs symbols more (variable a) items name args nodes levels used close rest = refl
+  term_runs symbols more (blank a) items name args nodes levels used close rest = refl
+  term_runs symbols more (nested open_ close' inner more' term) items name args nodes levels used close rest =
+      ap (run items (atom_at name args nodes (Empty ∷ Empty ∷ levels) used)) (append_assoc inner (at word.Close close' ∷ []) (at word.Close close ∷ rest))
+      ∙ term_runs inner more' term items name args nodes (Empty ∷ levels) used close' (at word.Close close ∷ rest)
+
+  -- arguments
+  pub args_run : (symbols : List Symbol) (count : ℕ) (more : List RawNode) → Args symbols count more
+      → (items : List RawItem) (name : Span) (args : ℕ) (nodes : List RawNode) (levels : List Level) (used : Use) (rest : List Symbol) → TakesArgs levels
+      → run items (atom_at name args nodes levels used) (symbols ++ rest) ≡ run items (more_args_in levels count name args (nodes ++ more) used) rest
+  args_run symbols count more no_args items name args nodes levels used rest flat =
+      (λ i. run items (atom_at name (same_count i) (sym (append-nil nodes) i) [] used) rest) where
+        same_count : args ≡ args + 0
+        same_count = omega arith
+  args_run symbols count more no_args items name args nodes levels used rest (within index count' lower) =
+      (λ i. run items (atom_at name args (sym (append-nil nodes) i) (Node index (same_count i) ∷ lower) used) rest) where
+        same_count : count' ≡ count' + 0
+        same_count = omega arith
+  args_run symbols count more (more_args first others n ms ms' one args') items name args nodes levels used rest flat =
+      ap (run items (atom_at name args nodes [] used)) (append_assoc first others rest)
+      ∙ arg_runs first ms one items name args nodes [] used (others ++ rest) flat
+      ∙ args_run others n ms' args' items name (args + 1) (nodes ++ ms) [] used rest flat
+      ∙ (let e : args + 1 + n ≡ args + (n + 1) = omega arith in
+      λ i. run items (atom_at name (e i) (append_assoc nodes ms ms' i) [] used) rest)
+  args_run symbols count more (more_args first others n ms ms' one args') items name args nodes levels used rest (within index count' lower) =
+      ap (run items (atom_at name args nodes (Node index count' ∷ lower) used)) (append_assoc first others rest)
+      ∙ arg_runs first ms one items name args nodes (Node index count' ∷ lower) used (others ++ rest) (within index count' lower)
+      ∙ args_run others n ms' args' items name args (nodes ++ ms) (Node index (count' + 1) ∷ lower) used rest (within index (count' + 1) lower)
+      ∙ (let e : count' + 1 + n ≡ count' + (n + 1) = omega arith in
+      λ i. run items (atom_at name args (append_assoc nodes ms ms' i) (Node index (e i) ∷ lower) used) rest)
+
+-- what may stand after an atom
+pub data StandsBehind : Word → Type 0 where
+  dot : StandsBehind word.Dot
+  back : StandsBehind word.Back
+  star : StandsBehind word.Star
+  lolli : StandsBehind word.Lolli
+
+-- the nodes of names
+abbrev pub name_nodes : List Span → List RawNode
+name_nodes names = map (λ a. node App a 0) names
+
+-- names, and then other arguments: the first atom of a clause or of an outer rule
+pub names_run : (symbols : List Symbol) (count : ℕ) (more : List RawNode) → Args symbols count more
+    → (items : List RawItem) (name : Span) (names : List Span) (mark : Word) (place : Span) (rest : List Symbol) → StandsBehind mark
+    → run items (state.Names name names) (symbols ++ at mark place ∷ rest) ≡ run items (atom_at name (length names + count) (name_nodes names ++ more) [] (use_.First name.from None)) (at mark place ∷ rest)
+names_run symbols count more no_args items name names mark place rest stands = names_end items name names mark place rest stands ∙ (let e : length names ≡ length names + 0 = omega arith in λ i. run items (atom_at name (e i) (sym (append-nil (name_nodes names)) i) [] (use_.First name.from None)) (at mark place ∷ rest)) where
+  names_end : (items : List RawItem) (name : Span) (names : List Span) (mark : Word) (place : Span) (rest : List Symbol) → StandsBehind mark → run items (state.Names name names) (at mark place ∷ rest) ≡ run items (atom_at name (length names) (name_nodes names) [] (use_.First name.from None)) (at mark place ∷ rest)
+  names_end items name names mark place rest dot = refl
+  names_end items name names mark place rest back = refl
+  names_end items name names mark place rest star = refl
+  names_end items name names mark place rest lolli = refl
+names_run symbols count more (more_args first others n ms ms' (arg_name a) args') items name names mark place rest stands =
+    names_run others n ms' args' items name (names ++ a ∷ []) mark place rest stands
+    ∙ (let e : length (names ++ a ∷ []) + n ≡ length names + (n + 1) = let s = length-append names (a ∷ []) in omega arith in
+    let m : name_nodes (names ++ a ∷ []) ++ ms' ≡ name_nodes names ++ (node App a 0 ∷ ms') = ap (λ ns. ns ++ ms') (map-append (λ b. node App b 0) names (a ∷ [])) ∙ append_assoc (name_nodes names) (node App a 0 ∷ []) ms' in
+    λ i. run items (atom_at name (e i) (m i) [] (use_.First name.from None)) (at mark place ∷ rest))
+names_run symbols count more (more_args first others n ms ms' (arg_variable a) args') items name names mark place rest stands =
+    args_run _ _ _ (more_args first others n ms ms' (arg_variable a) args') items name (length names) (name_nodes names) [] (use_.First name.from None) (at mark place ∷ rest) flat
+names_run symbols count more (more_args first others n ms ms' (arg_blank a) args') items name names mark place rest stands =
+    args_run _ _ _ (more_args first others n ms ms' (arg_blank a) args') items name (length names) (name_nodes names) [] (use_.First name.from None) (at mark place ∷ rest) flat
+names_run symbols count more (more_args first others n ms ms' (arg_term open_ close inner ms'' term) args') items name names mark place rest stands =
+    args_run _ _ _ (more_args first others n ms ms' (arg_term open_ close inner ms'' term) args') items name (length names) (name_nodes names) [] (use_.First name.from None) (at mark place ∷ rest) flat

@@ -9,7 +9,7 @@ use Rattle.cep_parse.specs.declared.raw.RawElem.TheVariants as elem
 use Rattle.cep_parse.specs.declared.raw.RawItem.{RawItem}
 use Rattle.cep_parse.specs.declared.raw.RawItem.TheVariants as item
 use Rattle.cep_parse.specs.declared.raw.RawNode.{RawNode}
-use Rattle.cep_parse.specs.declared.raw.RawStart.TheVariants.{Listed}
+use Rattle.cep_parse.specs.declared.raw.RawStart.TheVariants.{Listed, Named}
 use Rattle.cep_parse.specs.declared.symbol.Symbol.{Symbol}
 use Rattle.cep_parse.specs.declared.symbol.Word.TheVariants as word
 use Rattle.cep_parse.specs.declared.state.Plain.{Plain}
@@ -17,12 +17,10 @@ use Rattle.cep_parse.specs.declared.state.Plain.TheVariants as plain
 use Rattle.cep_parse.specs.declared.state.State.{State}
 use Rattle.cep_parse.specs.declared.state.State.TheVariants as state
 use Rattle.cep_parse.specs.declared.state.Use.TheVariants as use_
-use Rattle.cep_parse.specs.Grammar.{at, names, Args, Atom, Stars, Elems, Limit, Item}
-use Rattle.cep_parse.specs.Machine.{head_alone}
+use Rattle.cep_parse.specs.Grammar.{at, names, Args, Atom, Stars, Elems, Limit, Item, node, place_of, Sides, Label}
+use Rattle.cep_parse.specs.Machine.{head_alone, atom_of_names, begin, behind_blank, context_equals, context_begun, context_word, interactive_word, labelled, names_begun, stage_equals, stage_begun, stage_word, step, step_declared, step_names, step_plain, trace_limit, trace_stage, trace_word}
 use Rattle.cep_parse.specs.declared.symbol.Word.{Word}
 use Rattle.cep_parse.specs.declared.raw.RawKind.TheVariants.{App}
-use Rattle.cep_parse.specs.declared.raw.RawStart.TheVariants.{Named}
-use Rattle.cep_parse.specs.Grammar.{node, place_of, Sides, Label}
 use Rattle.cep_parse.specs.Grammar.Arg.{arg_name}
 use Rattle.cep_parse.specs.Grammar.Args.{no_args, more_args}
 use Rattle.cep_parse.specs.Grammar.Atom.{atom}
@@ -31,9 +29,8 @@ use Rattle.cep_parse.specs.Grammar.Sides.{sides}
 use Rattle.cep_parse.specs.Grammar.Label.{none as no_label, named as a_label}
 use Rattle.cep_parse.specs.Grammar.Limit.{blank as blank_limit, number as number_limit}
 use Rattle.cep_parse.specs.Grammar.Item.{sort, pred, back as back_pred, fact as fact_pred, colon, bare_clause, labelled as labelled_item, clause, outer, unnamed, stage as stage_item, context, interactive, trace_named, trace_listed}
-use Rattle.cep_parse.specs.Machine.{atom_of_names, begin, behind_blank, context_equals, context_begun, context_word, head_alone, interactive_word, labelled, names_begun, stage_equals, stage_begun, stage_word, step, step_declared, step_names, step_plain, trace_limit, trace_stage, trace_word}
-use Rattle.cep_parse.proofs.Residual.{DotRest, LeftRest, HeadRest, InAtomRest, PlainRest, Rest, NextRest}
-use Rattle.cep_parse.proofs.Residual.HeadRest.{alone, goals, side}
+use Rattle.cep_parse.proofs.Runs.{DotRest, LeftRest, HeadRest, InAtomRest, PlainRest, Rest, NextRest}
+use Rattle.cep_parse.proofs.Runs.HeadRest.{alone, goals, side}
 use Rattle.cep_parse.proofs.BackRules.{before_elem_back, behind_left_back, elem_back_left, rule_back, whole_atom_of}
 use Rattle.cep_parse.proofs.BackUses.{atom_back', bag_back, before_goal_back, ending_back, rule_named_back, rules_back}
 

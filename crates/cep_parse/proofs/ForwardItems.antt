@@ -37,11 +37,11 @@ use Rattle.cep_parse.specs.Grammar.Label.{none as no_label, named as a_label}
 use Rattle.cep_parse.specs.Grammar.Item.{pred, back as back_pred, fact as fact_pred, colon, bare_clause, labelled, clause, outer, unnamed, stage as stage_item, context, trace_named, trace_listed}
 use Rattle.cep_parse.specs.Machine.{atom_begun, bag_ended}
 use Rattle.cep_parse.proofs.Runs.{moved, run, run_from, atom_at, state_behind}
-use Rattle.cep_parse.proofs.ForwardAtoms.{names_run, StandsBehind}
-use Rattle.cep_parse.proofs.ForwardAtoms.StandsBehind.{dot as stands_dot, back as stands_back, star as stands_star, lolli as stands_lolli}
-use Rattle.cep_parse.proofs.ForwardRules as rules
-use Rattle.cep_parse.proofs.ForwardRules.{atom_runs, rule_at, EndsElem, regroup, sides_run, sides_run_behind, rules_run}
-use Rattle.cep_parse.proofs.ForwardRules.EndsElem.{star as ends_star, lolli as ends_lolli}
+use Rattle.cep_parse.proofs.BackAtoms.{names_run, StandsBehind}
+use Rattle.cep_parse.proofs.BackAtoms.StandsBehind.{dot as stands_dot, back as stands_back, star as stands_star, lolli as stands_lolli}
+use Rattle.cep_parse.proofs.BackRules as rules
+use Rattle.cep_parse.proofs.BackRules.{atom_runs, rule_at, EndsElem, regroup, sides_run, sides_run_behind, rules_run}
+use Rattle.cep_parse.proofs.BackRules.EndsElem.{star as ends_star, lolli as ends_lolli}
 
 -- goals after the first, up to the dot
 goals_run : (symbols : List Symbol) (goals : List RawAtom) → Goals symbols goals → (items : List RawItem) (label : Option Span) (head : RawAtom) (so_far : List RawAtom) (name : Span) (count : ℕ) (nodes : List RawNode) (x : Span) (rest : List Symbol)

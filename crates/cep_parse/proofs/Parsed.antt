@@ -16,8 +16,7 @@ use Rattle.cep_parse.specs.declared.symbol.Word.TheVariants as word
 use Rattle.cep_parse.specs.Files.{IsParsed, open_behind}
 use Rattle.cep_parse.specs.Machine.{Config, is_within, moved, step}
 use Rattle.cep_parse.specs.Symbols.{symbols_of}
-use Rattle.cep_parse.proofs.Reading.{IsAt, at_next, at_start, ends_early, ends_well, nests_at, stops_at}
-use Rattle.cep_parse.proofs.TokenLemmas.{open_within}
+use Rattle.cep_parse.proofs.ParsedOnce.{IsAt, at_next, at_start, ends_early, ends_well, nests_at, stops_at, open_within}
 
 -- a parenthesis is one too many, or no more are open than may be
 deep_or_not : (w : Word) (open_ : ℕ) → open_ ≤ MOST_OPEN → ((w ≡ word.Open) × (open_ ≡ MOST_OPEN)) ⊎ (open_behind w open_ ≤ MOST_OPEN)

@@ -11,7 +11,7 @@ use Rattle.cep_play.specs.declared.report.Status.{Status}
 use Rattle.cep_report.specs.ClaimLines.{claim_lines_of}
 use Rattle.cep_play.specs.Claims.{claims_code, IsJudged}
 use Rattle.cep_play.specs.Outcome.{code_of}
-use Rattle.cep_play.proofs.Reporting.{Judged}
+use Rattle.cep_play.proofs.Reported.{Judged}
 
 abbrev lines_of : Parts → Judged → List ℕ
 lines_of program one = claim_lines_of program one.0 one.1

@@ -1,9 +1,4 @@
-pub mod Reporting
 pub mod Reported
-pub mod Playing
 pub mod Done
-pub mod Begins
-pub mod OneDue
-pub mod Telling
-pub mod Playable
+pub mod Playing
 pub mod Judging

@@ -1,9 +1,4 @@
-pub mod Words
 pub mod BlockedLines
-pub mod AllPlayers
-pub mod RoundSteps
-pub mod Told
 pub mod RoundsThere
-pub mod OffersDone
 pub mod Going
 pub mod OneInRounds

@@ -1,13 +1,11 @@
 -- What is typed determines a dialogue in rounds but for the derivations of what is done.
 use Rattle.std.proofs.Common.{◌≡◌, ℕ, ◌<◌, ◌≤◌, ◌^◌, Bool, List, [], ◌∷◌, ◌++◌, map, length, Option, None, Some, append-nil, refl, sym, ap, ◌∙◌, arith}
-use Rattle.cep_players.proofs.Words.{slice_get, deeds_counted, Event, Tree, Multiset, Rule, Parts, Offer, AreOffers, own_group, Step, Position, Deed, IsDeed, AreDeeds, start_of, Limit, Passes, EndWord, Quiet, Choice, Place, Settings, Hears, Supply, whole_supply, Question, AreAdmitted, admitted}
-use Rattle.cep_players.proofs.Words.{Hearing, IsHeard, AreHeard, HaveChosen, Round, IsListedHere, IsChosenHere, IsRoundDone, TurnOrRound, a_turn, a_round, AreTurnsAndRounds, EndOfRounds, of_turn, of_player, of_offer, unproved_round, unproved_part, unproved_end, IsCutOff, CannotBeDone, StopsInRound}
-use Rattle.cep_players.proofs.Words.{StopsAtPlayer, EndsInRounds, RunsInRounds, DialogueInRounds}
+use Rattle.cep_players.proofs.BlockedLines.{slice_get, deeds_counted, Event, Tree, Multiset, Rule, Parts, Offer, AreOffers, own_group, Step, Position, Deed, IsDeed, AreDeeds, start_of, Limit, Passes, EndWord, Quiet, Choice, Place, Settings, Hears, Supply, whole_supply, Question, AreAdmitted, admitted, Hearing, IsHeard, AreHeard, HaveChosen, Round, IsListedHere, IsChosenHere, IsRoundDone, TurnOrRound, a_turn, a_round, AreTurnsAndRounds, EndOfRounds, of_turn, of_player, of_offer, unproved_round, unproved_part, unproved_end, IsCutOff, CannotBeDone, StopsInRound, StopsAtPlayer, EndsInRounds, RunsInRounds, DialogueInRounds}
 use Rattle.cep_base.specs.declared.limits.TheConstants.{MOST_OFFERS}
 use Rattle.cep_rule.specs.declared.signature.Signature.{Signature}
 use Rattle.std.specs.FinMap as finite
 use Rattle.cep_step.specs.declared.limit.Limit.TheVariants as limit
-use Rattle.cep_run.proofs.OneRun as one
+use Rattle.cep_run.proofs.OneDialogue as one
 
 one_word : (program : Parts) (most : ℕ) (at : Position) (next : Offer) (rule rule' : Rule) (word word' : EndWord) → slice_get program.rules next.rule ≡ Some rule → slice_get program.rules next.rule ≡ Some rule'
     → CannotBeDone program most at rule next.values word → CannotBeDone program most at rule' next.values word' → word ≡ word'

@@ -1,10 +1,4 @@
-pub mod Flags
-pub mod Counts
-pub mod Orders
 pub mod Rests
-pub mod MachineSteps
-pub mod Premises
 pub mod Places
-pub mod SideAtoms
 pub mod Admitted
-pub mod Exchanges
+pub mod Orders

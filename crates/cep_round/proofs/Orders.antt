@@ -1,31 +1,37 @@
--- Offers done one after another, in any order.
-use Rattle.std.proofs.Common.{◌≡◌, ◌⊎◌, inl, inr, cond, ℕ, ◌+◌, ◌-◌, ◌<◌, ◌≤◌, Bool, true, false, ◌||◌, List, [], ◌∷◌, ◌++◌, map, Contains, Some, slice_get, refl, sym, ap, subst, ◌∙◌, arith, IsPermutation}
+-- Offers done one after another in any order, and what they use and give.
+use Rattle.std.proofs.Common.{◌≡◌, ◌⊎◌, inl, inr, cond, ℕ, ◌+◌, ◌-◌, ◌<◌, ◌≤◌, Bool, true, false, ◌||◌, List, [], ◌∷◌, ◌++◌, map, Contains, Some, slice_get, refl, sym, ap, subst, ◌∙◌, arith, IsPermutation, ◌*◌, length, ◌^◌, take}
 use Rattle.std.specs.Prelude.{filter, IfSome}
-use Rattle.std.specs.List.{AllByRecursion}
+use Rattle.std.specs.List.{AllByRecursion, flat_map}
 use Rattle.std.proofs.lemmas.Bool.{cases_lt}
-use Rattle.std.proofs.lemmas.List.{map-append}
+use Rattle.std.proofs.lemmas.List.{map-append, length-map, length-append, take_all}
 use Rattle.std.proofs.lemmas.List.Sums.{sum_by-cons}
 use Rattle.std.proofs.lemmas.List.Sorted.{sum_by-IsPermutation, Contains-permutation, IsPermutation-sym}
-use Rattle.cep_base.proofs.Elements.{all_at, all_of, contains_cases, contains_behind, contains_same, contains_right}
-use Rattle.cep_base.proofs.Lists.{holds_at}
-use Rattle.cep_term.specs.Tree.{Tree, AtomTree}
-use Rattle.cep_term.specs.Multiset.{Multiset, count_of, gathered, IsContained, IsBag, IsOnce, held}
+use Rattle.cep_base.proofs.Elements.{all_at, all_of, contains_cases, contains_behind, contains_same, contains_right, both_all}
+use Rattle.cep_base.proofs.Lists.{holds_at, some_same, all_mapped, filter_few, all_weaker, all_flat}
+use Rattle.cep_term.specs.Tree.{Tree, AtomTree, IsGroundAtom}
+use Rattle.cep_term.specs.Multiset.{Multiset, count_of, gathered, IsContained, IsBag, IsOnce, held, difference_of, copies_in}
 use Rattle.cep_rule.specs.declared.rule.Rule.{Rule}
 use Rattle.cep_rule.specs.declared.parts.Parts.{Parts}
 use Rattle.cep_rule.specs.declared.offer.Offer.{Offer}
 use Rattle.cep_rule.specs.Patterns.{PremiseTree}
 use Rattle.cep_rule.specs.Binding.{needed_of}
-use Rattle.cep_rule.specs.Typing.{AreValues, is_fact}
-use Rattle.cep_rule.specs.State.{IsState}
+use Rattle.cep_rule.specs.Typing.{AreValues, is_fact, IsTyped}
+use Rattle.cep_rule.specs.State.{IsState, joined}
 use Rattle.cep_rule.specs.Instances.{full_instance, full_instances, kept_of, left_of, right_of}
 use Rattle.cep_rule.specs.Derivations.{IsDerivable}
 use Rattle.cep_rule.specs.Offers.{Applies}
 use Rattle.cep_rule.specs.Steps.{MakesFit}
 use Rattle.cep_rule.specs.Program.{IsTypedRule, IsDividedRule, IsProgram}
 use Rattle.cep_round.specs.RoundLaws.{RoundLaws}
-use Rattle.cep_round.specs.Rounds.{needs, gives, sum_of_sides, all_need, Together}
+use Rattle.cep_round.specs.Rounds.{needs, gives, sum_of_sides, all_need, Together, used_with, admitted, AreAdmitted, AreChosen}
 use Rattle.cep_round.specs.Orders.{MakesFitAtoms, IsOfferDone, AreOffersDone, KeepHeights}
-use Rattle.cep_round.proofs.Counts.{join_count, count_all, all_count}
+use Rattle.cep_round.proofs.Admitted.{join_count, count_all, all_count, each_admitted, as_many_flags, few_admitted, joined_gathered, exchanged}
+use Rattle.cep_base.specs.declared.limits.TheConstants.{MOST_PREMISES, MOST_RIGHT, MOST_COPIES, MOST_HEIGHT}
+use Rattle.cep_rule.specs.Limits.{IsSmallRule}
+use Rattle.cep_round.specs.Sides.{needed_by, given_by, IsOfProgram}
+use Rattle.std.specs.FinMap as finite
+
+-- Offers done one after another, in any order.
 
 -- counts of one atom: l needed and r given by the first offer, s needed and g given by those after it, x the rest, o before and n after the first
 held_few : (t : Bool) (n m : ℕ) → t ≡ true → n ≡ held t m → n ≤ 1
@@ -134,8 +140,8 @@ module _ (laws : RoundLaws) (program : Parts) where
       before_count : (a : AtomTree) → count_of old a ≡ held (fact a) (count_of left a + count_of self.step.rest a)
       before_count a = rw self.step.before (join_count laws.bags program left self.step.rest a)
 
-      new_bag : IsBag new
-      new_bag = rw self.step.after (laws.bags.once_kept fact _ (laws.bags.sum_kept right self.step.rest (laws.right program.signature self.applies.rule offer.values (typed_at offer self.applies.rule self.applies.numbered) self.applies.values) self.step.bag))
+      after_bag : IsBag new
+      after_bag = rw self.step.after (laws.bags.once_kept fact _ (laws.bags.sum_kept right self.step.rest (laws.right program.signature self.applies.rule offer.values (typed_at offer self.applies.rule self.applies.numbered) self.applies.values) self.step.bag))
 
       new_once : IsOnce fact new
       new_once a is = held_few (fact a) (count_of new a) _ is (after_count a)
@@ -188,7 +194,7 @@ module _ (laws : RoundLaws) (program : Parts) where
     -- a run from a multiset leads to one
     pub last_bag : (height : ℕ) (order : List Offer) (state last : Multiset) → IsBag state → AreOffersDone program height state order last → IsBag last
     last_bag height [] state last bag done = rw done bag
-    last_bag height (offer ∷ order) state last bag done = last_bag height order done.0 last (new_bag height offer state done.0 done.1) done.2
+    last_bag height (offer ∷ order) state last bag done = last_bag height order done.0 last (after_bag height offer state done.0 done.1) done.2
 
     -- facts that are needed by some are given by some
     all_stay : (height : ℕ) (order : List Offer) (state last : Multiset) → AreOffersDone program height state order last → (a : AtomTree) → fact a ≡ true → 0 < count_all laws.bags program needs a order → 0 < count_all laws.bags program gives a order
@@ -231,3 +237,151 @@ module _ (laws : RoundLaws) (program : Parts) where
   pub all_ready : (height : ℕ) (state : Multiset) (offers : List Offer) → AllByRecursion (Applies program height state) offers → AllByRecursion (MakesFitAtoms program) offers → AllByRecursion (IsReady height) offers
   all_ready height state [] applies fit = tt
   all_ready height state (offer ∷ offers) applies fit = (ready height state offer applies.0 fit.0, all_ready height state offers applies.1 fit.1)
+
+-- The atoms of the sides of offers: they are ground, they are few, and their counts are those of the sides.
+
+all_kept : (P : AtomTree → Type 0) (test : PremiseTree → Bool) (premises : List PremiseTree) → AllByRecursion P (map (λ premise. premise.atom) premises) → AllByRecursion P (map (λ premise. premise.atom) (filter test premises))
+all_kept P test [] all = tt
+all_kept P test (premise ∷ premises) all = grind (arith, all_kept P test premises all.1)
+
+both_held : (t : Bool) (x y n m : ℕ) → n ≡ held t x → m ≡ held t y → held t (n + m) ≡ held t (x + y)
+both_held t x y n m e f = grind arith
+
+pub of_applies : (program : Parts) (height : ℕ) (state : Multiset) (offer : Offer) → Applies program height state offer → IsOfProgram program offer
+of_applies program height state offer applies = record { rule = applies.rule; numbered = applies.numbered; values = applies.values }
+
+module _ (laws : RoundLaws) (program : Parts) (kept : IsProgram program) (offer : Offer) (is : IsOfProgram program offer) where
+  abbrev rule : Rule
+  rule = is.rule
+
+  typed : IsTypedRule program.signature rule
+  typed = holds_at (IsTypedRule program.signature) program.rules offer.rule rule kept.typed_rules is.numbered
+
+  small : IsSmallRule rule
+  small = holds_at IsSmallRule program.rules offer.rule rule kept.small.each_rule is.numbered
+
+  stay_typed : AllByRecursion (IsTyped program.signature rule.kinds) (kept_of program.signature rule)
+  stay_typed = all_kept (IsTyped program.signature rule.kinds) (λ premise. premise.kept || is_fact program.signature premise.atom) rule.premises typed.premises
+
+  ground : (atoms : List AtomTree) → AllByRecursion (IsTyped program.signature rule.kinds) atoms → AllByRecursion IsGroundAtom (full_instances offer.values atoms)
+  ground atoms all = all_mapped (IsTyped program.signature rule.kinds) IsGroundAtom (full_instance offer.values) atoms (λ a. laws.types.ground program.signature rule.kinds offer.values a is.values) all
+
+  needed_is : needed_by program offer ≡ full_instances offer.values (needed_of rule)
+  needed_is = rw is.numbered refl
+
+  given_is : given_by program offer ≡ full_instances offer.values (rule.right ++ kept_of program.signature rule)
+  given_is = rw is.numbered refl
+
+  -- the rule that is read is the offer's
+  module _ (read : Rule) (numbered : slice_get program.rules offer.rule ≡ Some read) where
+    same : rule ≡ read
+    same = some_same rule read (sym is.numbered ∙ numbered)
+
+  pub needed_ground : AllByRecursion IsGroundAtom (needed_by program offer)
+  needed_ground = rw needed_is (ground (needed_of rule) typed.premises)
+
+  pub given_ground : AllByRecursion IsGroundAtom (given_by program offer)
+  given_ground = rw given_is (ground (rule.right ++ kept_of program.signature rule) (both_all (IsTyped program.signature rule.kinds) rule.right (kept_of program.signature rule) typed.right stay_typed))
+
+  pub needed_few : length (needed_by program offer) ≤ MOST_PREMISES
+  needed_few = rw (needed_is, length-map, length-map) small.premises
+
+  pub given_few : length (given_by program offer) ≤ MOST_RIGHT + MOST_PREMISES
+  given_few =
+      let stay = filter_few (λ (premise : PremiseTree). premise.kept || is_fact program.signature premise.atom) rule.premises in
+      let right = small.right in
+      let premises = small.premises in
+      rw (given_is, length-map, length-append, length-map) (omega arith)
+
+  pub needs_count : (a : AtomTree) → count_of (needs program offer) a ≡ held (is_fact program.signature a) (count_of (gathered (needed_by program offer)) a)
+  needs_count a = rw (needs_is program offer rule is.numbered, needed_is) (laws.bags.once_count (is_fact program.signature) (gathered (full_instances offer.values (needed_of rule))) a)
+
+  pub gives_count : (a : AtomTree) → count_of (gives program offer) a ≡ held (is_fact program.signature a) (count_of (gathered (given_by program offer)) a)
+  gives_count a = rw (gives_is program offer rule is.numbered, given_is) (laws.bags.once_count (is_fact program.signature) (gathered (full_instances offer.values (rule.right ++ kept_of program.signature rule))) a)
+
+module _ (laws : RoundLaws) (program : Parts) where
+  -- the sum of a side of all offers, from the atoms of that side
+  pub all_gathered : (side : Parts → Offer → Multiset) (atoms_by : Parts → Offer → List AtomTree)
+      → ((offer : Offer) → IsOfProgram program offer → (a : AtomTree) → count_of (side program offer) a ≡ held (is_fact program.signature a) (count_of (gathered (atoms_by program offer)) a))
+      → (offers : List Offer) → AllByRecursion (IsOfProgram program) offers → (a : AtomTree)
+      → count_of (sum_of_sides side program offers) a ≡ held (is_fact program.signature a) (count_of (gathered (flat_map (atoms_by program) offers)) a)
+  all_gathered side atoms_by same [] are a = grind (arith, laws.bags.empty, program.signature)
+  all_gathered side atoms_by same (offer ∷ offers) are a = grind (arith, join_count, both_held, same, laws.bags, laws.bags.joined_count, program.signature, are.0, are.1, all_gathered side atoms_by same offers are.1 a)
+
+-- lists that stand one after the other are as long as so many of the longest
+pub flat_few : {A B : Type 0} (f : A → List B) (P : A → Type 0) (most : ℕ) (xs : List A) → ((x : A) → P x → length (f x) ≤ most) → AllByRecursion P xs → length (flat_map f xs) ≤ most * length xs
+flat_few f P most [] few all = omega arith
+flat_few f P most (x ∷ xs) few all = let one = few x all.0 in let more = flat_few f P most xs few all.1 in rw length-append (grind arith)
+
+-- What is used once an offer is admitted, and what all that are admitted come to.
+
+module _ (laws : RoundLaws) (program : Parts) (kept : IsProgram program) where
+  module _ (offer : Offer) (is : IsOfProgram program offer) where
+    needs_bag : IsBag (needs program offer)
+    needs_bag =
+        rw (needs_is program offer is.rule is.numbered)
+        (laws.left program.signature is.rule offer.values (holds_at (IsTypedRule program.signature) program.rules offer.rule is.rule kept.typed_rules is.numbered) is.values)
+
+    pub few_with : (used with : Multiset) (atoms : List AtomTree) → atoms ≡ needed_by program offer → with ≡ used → copies_in used ≤ MOST_COPIES → copies_in with + length atoms < 2 ^ 32
+    few_with used with atoms atoms_are with_is few = let some = needed_few laws program kept offer is in rw (atoms_are, with_is) (omega arith)
+
+    pub used_with_is : (used with : Multiset) (parts : Parts) (atoms : List AtomTree) (new : Multiset) → IsBag used → parts ≡ program → atoms ≡ needed_by program offer → with ≡ used → new ≡ joined parts.signature with (gathered atoms) → new ≡ used_with program used offer
+    used_with_is used with parts atoms new bag parts_are atoms_are with_is new_is =
+        rw (new_is, parts_are, atoms_are, with_is)
+        (joined_gathered laws.bags program used (needs program offer) (needed_by program offer) bag needs_bag (laws.bags.gathered_kept (needed_by program offer) (needed_ground laws program kept offer is)) (needs_count laws program kept offer is))
+
+  module _ (state : Multiset) (chosen : List Offer) (flags : List Bool) (are_chosen : AreChosen program state chosen) (are : AreAdmitted program state finite.empty chosen flags) where
+    abbrev done : List Offer
+    done = admitted chosen flags
+
+    each : AllByRecursion (IsOfProgram program) done
+    each = each_admitted (IsOfProgram program) chosen flags (all_weaker (Applies program MOST_HEIGHT state) (IsOfProgram program) chosen (of_applies program MOST_HEIGHT state) are_chosen.apply)
+
+    needed_all : AllByRecursion IsGroundAtom (flat_map (needed_by program) done)
+    needed_all = all_flat (IsOfProgram program) IsGroundAtom (needed_by program) done (needed_ground laws program kept) each
+
+    given_all : AllByRecursion IsGroundAtom (flat_map (given_by program) done)
+    given_all = all_flat (IsOfProgram program) IsGroundAtom (given_by program) done (given_ground laws program kept) each
+
+    module _ (n : ℕ) (all : length chosen ≤ n) (needed given : List AtomTree) (so_far : (needed ≡ flat_map (needed_by program) (admitted (take n chosen) (take n flags))) × (given ≡ flat_map (given_by program) (admitted (take n chosen) (take n flags)))) where
+      whole : admitted (take n chosen) (take n flags) ≡ done
+      whole = let same = as_many_flags program state finite.empty chosen flags are in λ i. admitted (take_all n chosen all i) (take_all n flags (omega arith) i)
+
+      needed_by_done : needed ≡ flat_map (needed_by program) done
+      needed_by_done = so_far.0 ∙ ap (flat_map (needed_by program)) whole
+
+      given_by_done : given ≡ flat_map (given_by program) done
+      given_by_done = so_far.1 ∙ ap (flat_map (given_by program)) whole
+
+      pub needed_are_ground : AllByRecursion IsGroundAtom needed
+      needed_are_ground = rw needed_by_done needed_all
+
+      pub given_are_ground : AllByRecursion IsGroundAtom given
+      given_are_ground = rw given_by_done given_all
+
+      pub few_needed : length needed < 2 ^ 32
+      few_needed =
+          let some = flat_few (needed_by program) (IsOfProgram program) MOST_PREMISES done (needed_few laws program kept) each in
+          let few = few_admitted chosen flags in
+          let most = are_chosen.few in
+          rw needed_by_done (omega arith)
+
+      pub few_given : copies_in state + length given < 2 ^ 32
+      few_given =
+          let some = flat_few (given_by program) (IsOfProgram program) (MOST_RIGHT + MOST_PREMISES) done (given_few laws program kept) each in
+          let few = few_admitted chosen flags in
+          let most = are_chosen.few in
+          let copies = are_chosen.fits.copies in
+          rw given_by_done (omega arith)
+
+      module _ (parts : Parts) (new : Multiset) (parts_are : parts ≡ program) (new_is : new ≡ joined parts.signature (difference_of state (joined parts.signature finite.empty (gathered needed))) (gathered given)) where
+        pub new_bag : IsBag new
+        new_bag = grind (arith, needed_are_ground, given_are_ground, laws.bags.once_kept, parts.signature, laws.bags.sum_kept, laws.bags.difference_kept, are_chosen.is_state.bag, laws.bags.empty_kept, laws.bags.gathered_kept)
+
+        pub leads_together : IsContained (all_need program done) state → Together program done state new
+        leads_together contained =
+            exchanged laws.bags program done (flat_map (needed_by program) done) (flat_map (given_by program) done) state new
+            (all_gathered laws program needs needed_by (needs_count laws program kept) done each)
+            (all_gathered laws program gives given_by (gives_count laws program kept) done each)
+            contained
+            (new_is ∙ (λ i. joined (parts_are i).signature (difference_of state (joined (parts_are i).signature finite.empty (gathered (needed_by_done i)))) (gathered (given_by_done i))))

@@ -1,15 +1,26 @@
--- Multisets in which each atom that is there has a copy: the counts alone say which one it is.
-use Rattle.std.proofs.Common.{◌≡◌, ◌≢◌, ℕ, ◌+◌, Bool, cond, List, [], ◌∷◌, Option, Some, unwrap_or, sym, ◌∙◌, arith}
-use Rattle.std.specs.Prelude.{fold}
+-- Multisets and lists in order that are told by what they hold.
+use Rattle.std.proofs.Common.{◌≡◌, ◌≢◌, ℕ, ◌+◌, Bool, cond, List, [], ◌∷◌, Option, Some, unwrap_or, sym, ◌∙◌, arith, true, false, ◌&&◌, ◌++◌, drop, ap, append_assoc, ⊎_elim, refl, Contains}
+use Rattle.std.specs.Prelude.{fold, slice_get, nat_lt}
 use Rattle.std.specs.List.{AllByRecursion}
-use Rattle.std.specs.Ordering.{eq_by_cmp}
-use Rattle.std.specs.FinMap.{get-entries, get-empty, get-insert, get-remove, same_map}
+use Rattle.std.specs.Ordering.{eq_by_cmp, nat_cmp, ordering_then, ordering_reverse}
+use Rattle.std.specs.FinMap.{get-entries, get-empty, get-insert, get-remove, same_map, IsAntisymmetric, nat_cmp-IsAntisymmetric, slice_cmp-IsAntisymmetric}
 use Rattle.std.specs.FinMap.Entries.{find}
 use Rattle.std.specs.FinMap as finite
 use Rattle.cep_term.specs.Tree.{AtomTree}
-use Rattle.cep_term.specs.Order.{atom_cmp}
+use Rattle.cep_term.specs.Order.{atom_cmp, tree_cmp}
 use Rattle.cep_term.specs.BagLaws.{BagLaws}
-use Rattle.cep_term.specs.Multiset.{Multiset, count_of, with_count, with_one, gathered, sum_of, IsBag, IsEntry}
+use Rattle.cep_term.specs.Multiset.{Multiset, count_of, with_count, with_one, gathered, sum_of, IsBag, IsEntry, gained}
+use Rattle.cep_base.proofs.Drops.{drop_at}
+use Rattle.cep_base.proofs.Elements.{contains_none, contains_first, contains_behind, contains_cases, all_at}
+use Rattle.std.specs.declared.cmp.Ordering.TheVariants.{Less, Equal, Greater}
+use Rattle.std.specs.declared.cmp.Ordering.{Ordering}
+use Rattle.std.specs.Cmp.{IsTotalOrder, nat_cmp_total, on_total, then_total}
+use Rattle.std.specs.Cmp.Lexicographic.{slice_cmp, lists_total}
+use Rattle.cep_rule.specs.declared.parts.Parts.{Parts}
+use Rattle.cep_rule.specs.declared.offer.Offer.{Offer}
+use Rattle.cep_rule.specs.Offers.{offer_cmp, AreOffers}
+
+-- Multisets in which each atom that is there has a copy: the counts alone say which one it is.
 
 -- Each atom that is there has a copy.
 abbrev pub HasCopies : Multiset → Type 0
@@ -53,3 +64,94 @@ module _ (laws : BagLaws) where
   -- one more copy
   pub count_more : (bag : Multiset) (a b : AtomTree) → count_of (with_one bag a) b ≡ count_of bag b + one_if (eq_by_cmp atom_cmp a b)
   count_more bag a b = grind (arith, laws.own, laws.others, laws.total, laws.ties)
+
+-- Of atoms that are added those that a state gains, one after another.
+
+module _ (laws : BagLaws) (test : AtomTree → Bool) (state fresh : Multiset) (atoms list whole : List AtomTree) where
+  pub none_yet : list ≡ [] → fresh ≡ finite.empty → gained test state atoms ≡ list ++ gained test (sum_of state fresh) atoms
+  none_yet none empty = grind (arith, laws.gained_alike, laws.sum, laws.empty)
+
+  pub skipped : (n : ℕ) (a : AtomTree) → whole ≡ list ++ gained test (sum_of state fresh) (drop n atoms) → slice_get atoms n ≡ Some a → (test a && nat_lt 0 (count_of (sum_of state fresh) a)) ≡ true → whole ≡ list ++ gained test (sum_of state fresh) (drop (n + 1) atoms)
+  skipped n a so_far is held = grind (arith, drop_at)
+
+  pub taken : (n : ℕ) (a : AtomTree) (fresh' : Multiset) (list' : List AtomTree) → whole ≡ list ++ gained test (sum_of state fresh) (drop n atoms) → slice_get atoms n ≡ Some a → (test a && nat_lt 0 (count_of (sum_of state fresh) a)) ≡ false
+      → ((b : AtomTree) → test b ≡ true → count_of fresh' b ≡ count_of (with_one fresh a) b) → list' ≡ list ++ a ∷ []
+      → whole ≡ list' ++ gained test (sum_of state fresh') (drop (n + 1) atoms)
+  taken n a fresh' list' so_far is held more longer =
+      so_far
+      ∙ ap (λ xs. list ++ gained test (sum_of state fresh) xs) (drop_at atoms n a is)
+      ∙ ap (λ t. list ++ cond t (gained test (sum_of state fresh) (drop (n + 1) atoms)) (a ∷ gained test (with_one (sum_of state fresh) a) (drop (n + 1) atoms))) held
+      ∙ ap (λ xs. list ++ a ∷ xs) (laws.gained_alike test (with_one (sum_of state fresh) a) (sum_of state fresh') (drop (n + 1) atoms) alike)
+      ∙ sym (append_assoc list (a ∷ []) (gained test (sum_of state fresh') (drop (n + 1) atoms)))
+      ∙ ap (λ xs. xs ++ gained test (sum_of state fresh') (drop (n + 1) atoms)) (sym longer)
+    where
+      alike : (b : AtomTree) → test b ≡ true → count_of (with_one (sum_of state fresh) a) b ≡ count_of (sum_of state fresh') b
+      alike b is' =
+          omega (arith, count_more laws (sum_of state fresh) a b, laws.sum state fresh b, laws.sum state fresh' b, more b is', count_more laws fresh a b)
+
+-- Two lists that are strictly increasing and have the same elements are one list.
+
+module _ {X : Type 0} (Before : X → X → Type 0) (apart : (x y : X) → Before x y → Before y x → ⊥) where
+  -- each element of the one list is one of the other
+  abbrev IsAmong : List X → List X → Type 0
+  IsAmong xs ys = (x : X) → Contains xs x → Contains ys x
+
+  -- each stands before all that follow it
+  abbrev Rises : List X → Type 0
+  Rises [] = Unit {0}
+  Rises (x ∷ xs) = AllByRecursion (Before x) xs × Rises xs
+
+  -- the first elements are the same
+  same_first : (x y : X) (xs ys : List X) → Rises (x ∷ xs) → Rises (y ∷ ys) → IsAmong (x ∷ xs) (y ∷ ys) → IsAmong (y ∷ ys) (x ∷ xs) → x ≡ y
+  same_first x y xs ys rises rises' among among' =
+      ⊎_elim sym
+      (λ x_later. ⊎_elim (λ same. same)
+      (λ y_later. absurd (apart y x (all_at (Before y) ys x rises'.0 x_later) (all_at (Before x) xs y rises.0 y_later)))
+      (contains_cases x xs y (among' y (contains_first y ys))))
+      (contains_cases y ys x (among x (contains_first x xs)))
+
+  -- after the first elements too, each is one of the other
+  among_rest : (x y : X) (xs ys : List X) → Rises (x ∷ xs) → x ≡ y → IsAmong (x ∷ xs) (y ∷ ys) → IsAmong xs ys
+  among_rest x y xs ys rises same among z there =
+      ⊎_elim (λ here. absurd (alone x z (same ∙ here) (all_at (Before x) xs z rises.0 there))) (λ later. later) (contains_cases y ys z (among z (contains_behind x xs z there)))
+    where
+      alone : (a b : X) → a ≡ b → Before a b → ⊥
+      alone a b is before = apart a b before (rw is (rw is at before))
+
+  -- two lists that rise and have the same elements are one
+  pub same_rising : (xs ys : List X) → Rises xs → Rises ys → IsAmong xs ys → IsAmong ys xs → xs ≡ ys
+  same_rising [] [] rises rises' among among' = refl
+  same_rising [] (y ∷ ys) rises rises' among among' = absurd (contains_none y (among' y (contains_first y ys)))
+  same_rising (x ∷ xs) [] rises rises' among among' = absurd (contains_none x (among x (contains_first x xs)))
+  same_rising (x ∷ xs) (y ∷ ys) rises rises' among among' =
+      let same = same_first x y xs ys rises rises' among among' in
+      let rest = same_rising xs ys rises.1 rises'.1 (among_rest x y xs ys rises same among) (among_rest y x ys xs rises' (sym same) among') in
+      cc
+
+-- The order of offers is total, and so the offers of a group in a state are one list.
+
+both_equal : (a b : Ordering) → ordering_then a b ≡ Equal → (a ≡ Equal) × (b ≡ Equal)
+both_equal Less b e = cc
+both_equal Equal b e = (refl, e)
+both_equal Greater b e = cc
+
+module _ (trees : IsTotalOrder tree_cmp) where
+  pub offer_cmp_total : IsTotalOrder offer_cmp
+  offer_cmp_total = then_total (on_total (λ (x : Offer). x.rule) nat_cmp_total) (on_total (λ (x : Offer). x.values) (lists_total trees))
+
+  pub offer_cmp_ties : IsAntisymmetric tree_cmp → (one other : Offer) → offer_cmp one other ≡ Equal → one ≡ other
+  offer_cmp_ties ties one other e =
+      let parts = both_equal (nat_cmp one.rule other.rule) (slice_cmp tree_cmp one.values other.values) e in
+      let rules : one.rule ≡ other.rule = nat_cmp-IsAntisymmetric one.rule other.rule parts.0 in
+      let values : one.values ≡ other.values = slice_cmp-IsAntisymmetric ties one.values other.values parts.1 in
+      λ i. record { rule = rules i; values = values i }
+
+  -- no two offers stand before each other
+  apart : (x y : Offer) → offer_cmp x y ≡ Less → offer_cmp y x ≡ Less → ⊥
+  apart x y e f = let turned : Less ≡ Greater = sym e ∙ offer_cmp_total.antisymm x y ∙ ap ordering_reverse f in cc
+
+  pub one_offers : (program : Parts) (height : ℕ) (state : Multiset) (group : ℕ) (one other : List Offer) → AreOffers program height state group one → AreOffers program height state group other → one ≡ other
+  one_offers program height state group one other are are' =
+      same_rising (λ x y. offer_cmp x y ≡ Less) apart one other are.in_order are'.in_order
+      (λ x there. are'.each x (are.no_other x there))
+      (λ x there. are.each x (are'.no_other x there))

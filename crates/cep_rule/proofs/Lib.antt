@@ -1,14 +1,5 @@
-pub mod RisingLists
-pub mod OfferLaws
-pub mod Copies
 pub mod StepLaws
-pub mod InstanceLaws
-pub mod TypedAtoms
-pub mod TypedValues
-pub mod ShapeLaws
-pub mod SmallValues
-pub mod SideLaws
 pub mod GroundLaws
-pub mod Telling
-pub mod Gains
+pub mod TypedValues
+pub mod Copies
 pub mod HeadSets

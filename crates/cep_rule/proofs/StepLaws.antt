@@ -1,29 +1,113 @@
--- What a step leads to is determined, by the counts of atoms, and edits of a state are steps.
-use Rattle.std.proofs.Common.{◌≡◌, ◌⊎◌, inl, inr, ℕ, ◌+◌, ◌-◌, ◌<◌, ◌≤◌, Bool, true, false, cond, not, ◌||◌, List, [], ◌∷◌, ◌++◌, map, Contains, refl, sym, ◌∙◌, arith}
-use Rattle.std.specs.Prelude.{filter}
+-- Typed instances of sides and premises, and the steps that they make.
+use Rattle.std.proofs.Common.{◌≡◌, ℕ, zero, suc, List, [], ◌∷◌, map, Some, None, unwrap_or, subst, arith, Bool, not, ◌||◌, ◌++◌, ◌⊎◌, inl, inr, ◌+◌, ◌-◌, ◌<◌, ◌≤◌, true, false, cond, Contains, refl, sym, ◌∙◌, length, ⊎_elim, ap}
+use Rattle.std.specs.Prelude.{slice_get, slice_index_or, filter}
+use Rattle.cep_base.proofs.Options.{none_some, some_same, from_some, some_weaker, from_some_is}
+use Rattle.cep_term.specs.Tree.{Tree, Trees, AtomTree, variable, node, none, more, AreGround, IsGroundAtom, IsFit, IsInRange, AreInRange, IsAtomInRange, term_nodes, argument_nodes, term_depth, argument_depth, Occurs, OccursAmong}
+use Rattle.cep_term.specs.Values.{term_instance, argument_instances, value_of}
+use Rattle.cep_rule.specs.declared.signature.Con.{Con}
+use Rattle.cep_rule.specs.declared.signature.Signature.{Signature}
+use Rattle.cep_rule.specs.Typing.{HasSort, HaveSorts, IsTyped, IsValue, AreValues, is_fact, HasStatePredicate}
+use Rattle.cep_rule.specs.Instances.{given, full_instance, full_instances, kept_of, taken_by, added_by, used_by, left_of, right_of}
 use Rattle.std.specs.List.{AllByRecursion}
+use Rattle.cep_base.proofs.Elements.{both_all, all_at, all_of}
+use Rattle.cep_base.proofs.Lists.{all_filtered, holds_at, all_weaker, all_from_places}
+use Rattle.cep_rule.specs.declared.rule.Rule.{Rule}
+use Rattle.cep_rule.specs.Patterns.{PremiseTree, ClauseTree}
+use Rattle.cep_rule.specs.Binding.{needed_of, OccursInSome, IsBoundRule, IsBoundClause}
+use Rattle.cep_rule.specs.Program.{IsTypedRule, IsDividedRule, IsTypedClause, IsProgram}
 use Rattle.std.proofs.lemmas.List.{map-append}
 use Rattle.std.proofs.lemmas.Bool.{or_parts}
 use Rattle.std.specs.Ordering.{eq_by_cmp}
 use Rattle.std.specs.Cmp.{Equal-is}
-use Rattle.cep_base.proofs.Elements.{both_all, all_at, all_of}
-use Rattle.cep_term.specs.Tree.{Tree, AtomTree, IsGroundAtom, IsFit}
 use Rattle.cep_term.specs.Order.{atom_cmp}
 use Rattle.cep_term.specs.BagLaws.{BagLaws}
 use Rattle.cep_term.specs.Multiset.{Multiset, count_of, gathered, sum_of, difference_of, IsContained, IsBag, held, once, IsOnce, gained, without}
-use Rattle.cep_rule.specs.declared.signature.Signature.{Signature}
-use Rattle.cep_rule.specs.declared.rule.Rule.{Rule}
-use Rattle.cep_rule.specs.Patterns.{PremiseTree}
-use Rattle.cep_rule.specs.Binding.{needed_of}
-use Rattle.cep_rule.specs.Typing.{IsTyped, HasStatePredicate, AreValues, is_fact}
 use Rattle.cep_rule.specs.State.{joined, IsState, IsStateAtom}
-use Rattle.cep_rule.specs.Instances.{full_instance, full_instances, kept_of, left_of, right_of, taken_by, added_by, used_by}
 use Rattle.cep_rule.specs.Step.{Step}
 use Rattle.cep_rule.specs.Steps.{MakesFit}
 use Rattle.cep_rule.specs.Matching.{state_after}
-use Rattle.cep_rule.specs.Program.{IsTypedRule, IsDividedRule}
-use Rattle.cep_rule.proofs.InstanceLaws.{ground_instance, typed_instance}
 use Rattle.cep_rule.proofs.Copies.{HasCopies, copies-bag, copies-gathered, copies-sum_of, same_counts, one_if, count_more}
+use Rattle.std.proofs.lemmas.Option.{slice_get_within}
+use Rattle.cep_rule.specs.declared.parts.Parts.{Parts}
+use Rattle.cep_rule.specs.declared.offer.Offer.{Offer}
+use Rattle.cep_rule.specs.Derivations.{ProofTree, ProofTrees, by_clause, no_goal, goal_by, IsHeadBy, Proves, ProveAll, IsDerivable}
+use Rattle.cep_rule.specs.Offers.{Applies}
+use Rattle.cep_rule.specs.Shapes.{IsSmallTerm, HasSmallValues, HaveSmallValues}
+
+-- Instances by values of the right types are ground and well typed.
+
+-- the value of a variable is a value of its type
+value_at : (cons : List Con) (kinds : List ℕ) (values : List Tree) (v sort : ℕ) (t : Tree) → AreValues cons kinds values → slice_get kinds v ≡ Some sort → IsValue cons sort (unwrap_or (slice_index_or (map Some values) v None) t)
+value_at cons [] [] v sort t are e = none_some sort e
+value_at cons [] (u ∷ values) v sort t are e = absurd are
+value_at cons (kind ∷ kinds) [] v sort t are e = absurd are
+value_at cons (kind ∷ kinds) (u ∷ values) zero sort t are e = subst (λ other. IsValue cons other u) (some_same kind sort e) are.0
+value_at cons (kind ∷ kinds) (u ∷ values) (suc v) sort t are e = value_at cons kinds values v sort t are.1 e
+
+-- Arguments are ground, and of these types.
+abbrev AreOf : List Con → List ℕ → Trees → Type 0
+AreOf cons sorts args = AreGround args × HaveSorts cons [] sorts args
+
+mutual
+  term_value : (cons : List Con) (kinds : List ℕ) (values : List Tree) → AreValues cons kinds values → (t : Tree) (sort : ℕ) → HasSort cons kinds sort t → IsValue cons sort (term_instance (given values) t)
+  term_value cons kinds values are (variable v) sort h = value_at cons kinds values v sort (variable v) are h
+  term_value cons kinds values are (node c args) sort h = record {
+    ground = from_some (slice_get cons c) _ _ (λ con typed. (args_values cons kinds values are args con.args typed.1).0) h;
+    typed = some_weaker (slice_get cons c) _ _ (λ con typed. (typed.0, (args_values cons kinds values are args con.args typed.1).1)) h;
+  }
+
+  args_values : (cons : List Con) (kinds : List ℕ) (values : List Tree) → AreValues cons kinds values → (args : Trees) (sorts : List ℕ) → HaveSorts cons kinds sorts args → AreOf cons sorts (argument_instances (given values) args)
+  args_values cons kinds values are none [] h = (tt, tt)
+  args_values cons kinds values are none (sort ∷ sorts) h = absurd h
+  args_values cons kinds values are (more t rest) [] h = absurd h
+  args_values cons kinds values are (more t rest) (sort ∷ sorts) h =
+      let first = term_value cons kinds values are t sort h.0 in
+      let others = args_values cons kinds values are rest sorts h.1 in
+      ((first.ground, others.0), (first.typed, others.1))
+
+pub ground_instance : (signature : Signature) (kinds : List ℕ) (values : List Tree) (a : AtomTree) → AreValues signature.cons kinds values → IsTyped signature kinds a → IsGroundAtom (full_instance values a)
+ground_instance signature kinds values a are typed =
+    from_some (slice_get signature.preds a.pred) _ _ (λ pred h. (args_values signature.cons kinds values are a.args pred.args h).0) typed
+
+pub typed_instance : (signature : Signature) (kinds : List ℕ) (values : List Tree) (a : AtomTree) → AreValues signature.cons kinds values → IsTyped signature kinds a → IsTyped signature [] (full_instance values a)
+typed_instance signature kinds values a are typed =
+    some_weaker (slice_get signature.preds a.pred) _ _ (λ pred h. (args_values signature.cons kinds values are a.args pred.args h).1) typed
+
+-- The atoms of both sides of a rule by values of the right types are ground.
+
+ground_all : (signature : Signature) (kinds : List ℕ) (values : List Tree) → AreValues signature.cons kinds values → (atoms : List AtomTree) → AllByRecursion (IsTyped signature kinds) atoms → AllByRecursion IsGroundAtom (full_instances values atoms)
+ground_all signature kinds values are [] typed = tt
+ground_all signature kinds values are (a ∷ atoms) typed = ((ground_instance signature kinds values a are typed.0), (ground_all signature kinds values are atoms typed.1))
+
+-- what holds of the atoms of all premises holds of those that stay
+all_kept : (P : AtomTree → Type 0) (test : PremiseTree → Bool) (premises : List PremiseTree) → AllByRecursion P (map (λ premise. premise.atom) premises) → AllByRecursion P (map (λ premise. premise.atom) (filter test premises))
+all_kept P test [] all = tt
+all_kept P test (premise ∷ premises) all = grind (arith, all_kept P test premises all.1)
+
+module _ (signature : Signature) (rule : Rule) (values : List Tree) (typed : IsTypedRule signature rule) (are : AreValues signature.cons rule.kinds values) where
+  typed_kept : AllByRecursion (IsTyped signature rule.kinds) (kept_of signature rule)
+  typed_kept = all_kept (IsTyped signature rule.kinds) (λ premise. premise.kept || is_fact signature premise.atom) rule.premises typed.premises
+
+  pub ground_left : AllByRecursion IsGroundAtom (full_instances values (needed_of rule))
+  ground_left = ground_all signature rule.kinds values are (needed_of rule) typed.premises
+
+  pub ground_right : AllByRecursion IsGroundAtom (full_instances values (rule.right ++ kept_of signature rule))
+  ground_right = grind (arith, ground_all, both_all, typed_kept, rule.kinds, rule.right, typed.right)
+
+  pub ground_taken : AllByRecursion IsGroundAtom (taken_by signature rule values)
+  ground_taken = grind (arith, ground_all, all_filtered, rule.kinds, typed.premises)
+
+  pub ground_added : AllByRecursion IsGroundAtom (added_by signature rule values)
+  ground_added = grind (arith, ground_all, both_all, all_filtered, typed_kept, rule.kinds, rule.right, typed.right)
+
+  pub ground_used : AllByRecursion IsGroundAtom (used_by signature rule values)
+  ground_used = ground_all signature rule.kinds values are (map (λ (premise : PremiseTree). premise.atom) (filter (λ premise. not (premise.kept || is_fact signature premise.atom)) rule.premises))
+      (all_kept (IsTyped signature rule.kinds) (λ premise. not (premise.kept || is_fact signature premise.atom)) rule.premises typed.premises)
+
+  pub ground_made : AllByRecursion IsGroundAtom (full_instances values rule.right)
+  ground_made = ground_all signature rule.kinds values are rule.right typed.right
+
+-- What a step leads to is determined, by the counts of atoms, and edits of a state are steps.
 
 -- The counts of one atom: t tells whether it is a fact, l, r and k are its copies on the left, on the right and among what stays, x those of the rest, o and n those before and after.
 within : (t : Bool) (l x o : ℕ) → o ≡ held t (held t l + x) → held t l ≤ o
@@ -271,3 +355,107 @@ module _ (laws : BagLaws) (signature : Signature) (rule : Rule) (values : List T
 pub edit_gains : BagLaws → (signature : Signature) (state taken : Multiset) (added : List AtomTree) → IsBag state → IsOnce (is_fact signature) state → IsBag taken → AllByRecursion IsGroundAtom added
     → state_after signature state taken added ≡ sum_of (difference_of state taken) (gathered (gained (is_fact signature) (difference_of state taken) added))
 edit_gains laws signature state taken added kept one kept' ground = grind (arith, laws.once_gains, laws.difference_kept, laws.difference)
+
+-- The variables of well-typed atoms have types, and values of the right types are as many.
+
+mutual
+  term_in_range : (cons : List Con) (kinds : List ℕ) (sort : ℕ) (t : Tree) → HasSort cons kinds sort t → IsInRange (length kinds) t
+  term_in_range cons kinds sort (variable v) typed = slice_get_within kinds v sort typed
+  term_in_range cons kinds sort (node c args) typed = from_some (slice_get cons c) _ _ (λ con h. args_in_range cons kinds con.args args h.1) typed
+
+  args_in_range : (cons : List Con) (kinds sorts : List ℕ) (args : Trees) → HaveSorts cons kinds sorts args → AreInRange (length kinds) args
+  args_in_range cons kinds [] none typed = tt
+  args_in_range cons kinds [] (more t rest) typed = absurd typed
+  args_in_range cons kinds (sort ∷ sorts) none typed = absurd typed
+  args_in_range cons kinds (sort ∷ sorts) (more t rest) typed = ((term_in_range cons kinds sort t typed.0), (args_in_range cons kinds sorts rest typed.1))
+
+pub atom_in_range : (signature : Signature) (kinds : List ℕ) (a : AtomTree) → IsTyped signature kinds a → IsAtomInRange (length kinds) a
+atom_in_range signature kinds a typed = from_some (slice_get signature.preds a.pred) _ _ (λ pred h. args_in_range signature.cons kinds pred.args a.args h) typed
+
+pub as_many_values : (cons : List Con) (kinds : List ℕ) (values : List Tree) → AreValues cons kinds values → length values ≡ length kinds
+as_many_values cons [] [] are = refl
+as_many_values cons [] (t ∷ values) are = absurd are
+as_many_values cons (sort ∷ kinds) [] are = absurd are
+as_many_values cons (sort ∷ kinds) (t ∷ values) are = let rest = as_many_values cons kinds values are.1 in omega arith
+
+-- The values of what applies or is proved are small: each variable occurs in an atom whose instance is fit.
+
+given_at : (values : List Tree) (v : ℕ) (u : Tree) → slice_get values v ≡ Some u → value_of (given values) v ≡ Some u
+given_at [] v u is = none_some u is
+given_at (t ∷ values) zero u is = is
+given_at (t ∷ values) (suc v) u is = given_at values v u is
+
+module _ (values : List Tree) (v : ℕ) (u : Tree) (is : value_of (given values) v ≡ Some u) where
+  mutual
+    within_term : (t : Tree) → Occurs v t → (term_nodes u ≤ term_nodes (term_instance (given values) t)) × (term_depth u ≤ term_depth (term_instance (given values) t))
+    within_term (variable w) occurs =
+        let here : unwrap_or (value_of (given values) w) (variable w) ≡ u = ap (λ o. unwrap_or o (variable w)) (ap (value_of (given values)) (sym occurs) ∙ is) in
+        subst (λ t. (term_nodes u ≤ term_nodes t) × (term_depth u ≤ term_depth t)) (sym here) ((omega arith), (omega arith))
+    within_term (node c args) occurs = let rest = within_args args occurs in ((let few = rest.0 in omega arith), (let low = rest.1 in omega arith))
+
+    within_args : (args : Trees) → OccursAmong v args → (term_nodes u ≤ argument_nodes (argument_instances (given values) args)) × (term_depth u ≤ argument_depth (argument_instances (given values) args))
+    within_args none occurs = absurd occurs
+    within_args (more t rest) occurs = ⊎_elim
+        (λ here. let first = within_term t here in ((let few = first.0 in omega arith), (let low = first.1 in omega arith)))
+        (λ later. let others = within_args rest later in ((let few = others.0 in omega arith), (let low = others.1 in omega arith)))
+        occurs
+
+  -- a value is small where its variable occurs in an atom whose instance is fit
+  value_small : (atoms : List AtomTree) → OccursInSome v atoms → AllByRecursion IsFit (full_instances values atoms) → IsSmallTerm u
+  value_small [] occurs fit = absurd occurs
+  value_small (a ∷ atoms) occurs fit = ⊎_elim
+      (λ here. let within = within_args a.args here in record {
+        nodes = let few = within.0 in let most = fit.0.nodes in omega arith;
+        depth = let low = within.1 in let most = fit.0.depth in omega arith;
+      })
+      (λ later. value_small atoms later fit.1)
+      occurs
+
+values_small : (values : List Tree) (vars : ℕ) (atoms : List AtomTree) → length values ≡ vars → ((v : ℕ) → v < vars → OccursInSome v atoms) → AllByRecursion IsFit (full_instances values atoms) → AllByRecursion IsSmallTerm values
+values_small values vars atoms many occurs fit = all_from_places IsSmallTerm values
+    (λ v u is. value_small values v u (given_at values v u is) atoms (occurs v (let within = slice_get_within values v u is in omega arith)) fit)
+
+proved_fit : (program : Parts) (proof : ProofTree) (a : AtomTree) → Proves program proof a → IsFit a
+proved_fit program (by_clause number values subs) a proves = proves.0
+
+all_proved_fit : (program : Parts) (proofs : ProofTrees) (atoms : List AtomTree) → ProveAll program proofs atoms → AllByRecursion IsFit atoms
+all_proved_fit program no_goal [] all = tt
+all_proved_fit program no_goal (a ∷ atoms) all = absurd all
+all_proved_fit program (goal_by proof proofs) [] all = absurd all
+all_proved_fit program (goal_by proof proofs) (a ∷ atoms) all = ((proved_fit program proof a all.0), (all_proved_fit program proofs atoms all.1))
+
+module _ (program : Parts) (kept : IsProgram program) where
+  node_small : (number : ℕ) (clause : ClauseTree) (values : List Tree) (subs : ProofTrees) (a : AtomTree) → slice_get program.clauses number ≡ Some clause → IsFit a → IsHeadBy program clause values a → ProveAll program subs (full_instances values clause.goals) → AllByRecursion IsSmallTerm values
+  node_small number clause values subs a found fit by all =
+      values_small values (length clause.vars) (clause.head ∷ clause.goals)
+      (as_many_values program.signature.cons clause.kinds values by.given ∙ (holds_at (IsTypedClause program.signature) program.clauses number clause kept.typed_clauses found).kinds)
+      (holds_at IsBoundClause program.clauses number clause kept.bound_clauses found)
+      ((subst IsFit by.head fit), (all_proved_fit program subs (full_instances values clause.goals) all))
+
+  mutual
+    pub proof_small : (proof : ProofTree) (a : AtomTree) → Proves program proof a → HasSmallValues proof
+    proof_small (by_clause number values subs) a proves = (
+      (from_some_is (slice_get program.clauses number) _ _ (λ clause found h. node_small number clause values subs a found proves.0 h.0 h.1) proves.1),
+      (from_some_is (slice_get program.clauses number) _ _ (λ clause found h. proofs_small subs (full_instances values clause.goals) h.1) proves.1),
+    )
+
+    proofs_small : (proofs : ProofTrees) (goals : List AtomTree) → ProveAll program proofs goals → HaveSmallValues proofs
+    proofs_small no_goal goals all = tt
+    proofs_small (goal_by proof proofs) [] all = absurd all
+    proofs_small (goal_by proof proofs) (goal ∷ goals) all = ((proof_small proof goal all.0), (proofs_small proofs goals all.1))
+
+  -- the instances of the linear premises are in the state, and so they are fit
+  needed_fit : BagLaws → (state : Multiset) (rule : Rule) (values : List Tree) → IsState program.signature state → IsContained (left_of program.signature rule values) state → AllByRecursion IsFit (full_instances values (needed_of rule))
+  needed_fit laws state rule values is contained = grind (arith, all_of, needed_there, is.each, program.signature)
+
+  pub offer_small : BagLaws → (height : ℕ) (state : Multiset) (offer : Offer) → IsState program.signature state → Applies program height state offer → AllByRecursion IsSmallTerm offer.values
+  offer_small laws height state offer is applies =
+      let rule = applies.rule in
+      let values = offer.values in
+      values_small values (length rule.vars) (needed_of rule ++ rule.backs)
+      (as_many_values program.signature.cons rule.kinds values applies.values ∙ (holds_at (IsTypedRule program.signature) program.rules offer.rule rule kept.typed_rules applies.numbered).kinds)
+      (holds_at IsBoundRule program.rules offer.rule rule kept.bound_rules applies.numbered)
+      (subst (AllByRecursion IsFit) (sym (map-append (full_instance values) (needed_of rule) rule.backs))
+      (both_all IsFit (full_instances values (needed_of rule)) (full_instances values rule.backs)
+      (needed_fit laws state rule values is applies.contained)
+      (all_weaker (IsDerivable program height) IsFit (full_instances values rule.backs) (λ a (can : IsDerivable program height a). proved_fit program can.proof a can.proves) applies.derivable)))

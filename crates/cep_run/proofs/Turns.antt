@@ -1,6 +1,6 @@
--- Each way through a turn is a turn of a run, or the end of one.
+-- Each way through a turn is a turn of a run, or the end of one, and what a deed says can be written.
 use Rattle.std.proofs.Common.{◌≡◌, ℕ, suc, ◌+◌, ◌*◌, ◌<◌, ◌≤◌, List, [], ◌∷◌, ◌++◌, length, append_assoc, get_or, inl, inr, refl, sym, ap, ◌∙◌, subst, arith, Option, None, Some, Bool, true, false}
-use Rattle.std.specs.Prelude.{slice_get, All, IsSomeAnd, IsTrue, ◌↔◌}
+use Rattle.std.specs.Prelude.{slice_get, All, IsSomeAnd, IsTrue, ◌↔◌, IfSome}
 use Rattle.std.specs.List.{AllByRecursion}
 use Rattle.std.proofs.lemmas.List.{append-nil, get_or_default}
 use Rattle.std.proofs.lemmas.Option.{slice_get_within, get_or_from_slice_get}
@@ -13,10 +13,10 @@ use Rattle.cep_rule.specs.declared.parts.Parts.{Parts}
 use Rattle.cep_rule.specs.declared.offer.Offer.{Offer}
 use Rattle.cep_rule.specs.Offers.{Applies, AreOffers, IsOffer}
 use Rattle.cep_rule.specs.Stages.{IsAsked}
-use Rattle.cep_rule.specs.Steps.{StepsTo}
+use Rattle.cep_rule.specs.Steps.{StepsTo, AreProofs}
 use Rattle.cep_rule.specs.Typing.{AreValues}
 use Rattle.cep_rule.specs.Matching.{offers_of, AreListed, RoseBy}
-use Rattle.cep_rule.specs.Shapes.{IsOfferOf}
+use Rattle.cep_rule.specs.Shapes.{IsOfferOf, IsProofOf}
 use Rattle.cep_step.specs.declared.limit.Limit.{Limit}
 use Rattle.cep_step.specs.declared.change.Change.{Change}
 use Rattle.cep_step.specs.declared.weighing.Weighed.{Weighed}
@@ -45,8 +45,13 @@ use Rattle.cep_run.specs.Begun.{PutsFront, SettlesSome, BeginsAct, IsQuestionOrT
 use Rattle.cep_run.specs.Turn.{position_of, supply_with, IsOfferedHere, Settles, IsPlaced, AreStepLines, Acts, WouldPass, limit_word, IsActed, IsMoved, RoseByAct, DoesTurn, Stops, IsTurned}
 use Rattle.cep_base.proofs.Did.{did_same, did_map, did_then}
 use Rattle.cep_run.proofs.TurnSteps.{lawful_step, limit_end}
-use Rattle.cep_run.proofs.Fronts.{front_of_front, put_on}
-use Rattle.cep_run.proofs.Unheard.{Short, Joins, Maps, left_then, settles_left, act_left}
+use Rattle.cep_run.proofs.Framed.{front_of_front, put_on, Short, Joins, Maps, left_then, settles_left, act_left}
+use Rattle.cep_base.proofs.Lists.{holds_at}
+use Rattle.cep_term.specs.Tree.{AtomTree}
+use Rattle.cep_rule.specs.Derivations.{ProofTree, Proves}
+use Rattle.cep_rule.specs.Program.{IsProgram}
+
+-- Each way through a turn is a turn of a run, or the end of one.
 
 some_same : {A : Type 0} (x y : A) → Some x ≡ Some y → x ≡ y
 some_same x y e = cc
@@ -287,3 +292,18 @@ turn_acted talk left old between new asking {program} {settings} config here spe
     (did_then talk left old between new _ _ _ (λ come first middle second rest settles acts. done_turn asking here spent spent' place come first middle second rest settles counts (position_of next) counted acts (rose acts.offer acts.rule acts.placed)) settled acted, counted, here.few)
 turn_acted talk left old between new asking config here spent spent' place settled may_edit steps steps' (Over last) (acted, same) rose =
     (did_then talk left old between new _ _ _ (λ come first middle second rest settles. failed_turn asking here spent spent' place come first middle second rest settles last.word) settled acted, same, rose)
+
+-- What a deed says can be written.
+
+-- an offer that applies has a text
+pub applied_has_text : (program : Parts) (height : ℕ) (state : Multiset) (offer : Offer) → Applies program height state offer → IsOfferOf program offer
+applied_has_text program height state offer applies = subst (λ o. IsSomeAnd o (λ rule. AreValues program.signature.cons rule.kinds offer.values)) (sym applies.numbered) applies.values
+
+-- the stage that a rule of the program leads to is one of its stages
+pub next_in_range : (program : Parts) (n : ℕ) (rule : Rule) → IsProgram program → slice_get program.rules n ≡ Some rule → IfSome rule.next (λ stage. stage < length program.stages)
+next_in_range program n rule kept numbered = holds_at (λ (r : Rule). IfSome r.next (λ stage. stage < length program.stages)) program.rules n rule kept.in_range.next_stages numbered
+
+-- what proves premises has the program's shape
+pub all_of_shape : ((program : Parts) (proof : ProofTree) (a : AtomTree) → Proves program proof a → IsProofOf program proof) → (program : Parts) (height : ℕ) (proofs : List ProofTree) (atoms : List AtomTree) → AreProofs program height proofs atoms → AllByRecursion (IsProofOf program) proofs
+all_of_shape shapes program height (proof ∷ proofs) (a ∷ atoms) are = grind (arith, all_of_shape shapes program height proofs atoms are.2)
+all_of_shape shapes program height proofs atoms are = grind arith

@@ -1,12 +1,5 @@
-pub mod Entries
-pub mod Copies
-pub mod Matching
-pub mod Gaining
 pub mod Ordered
-pub mod Completed
-pub mod RuleMatches
 pub mod Collecting
-pub mod FirstOffers
-pub mod Sides
-pub mod Edited
+pub mod RuleMatches
+pub mod Entries
 pub mod Owed

@@ -1,9 +1,5 @@
 pub mod Lookups
-pub mod Declaring
-pub mod Numbering
 pub mod Meeting
-pub mod Sorting
-pub mod Twice
 pub mod Labels
-pub mod Gathered
+pub mod Declaring
 pub mod Turns

@@ -1,5 +1,5 @@
--- At which place of a list a name stands, and what stands there.
-use Rattle.std.proofs.Common.{◌≡◌, ℕ, ◌+◌, ◌<◌, Bool, true, false, not, List, [], ◌∷◌, ◌++◌, map, Some, None, Option, length, take, get_or, refl, ap, sym, subst, ◌∙◌, cond, nat_lt}
+-- At which place of a list a name stands, and one rule more.
+use Rattle.std.proofs.Common.{◌≡◌, ℕ, ◌+◌, ◌<◌, Bool, true, false, not, List, [], ◌∷◌, ◌++◌, map, Some, None, Option, length, take, get_or, refl, ap, sym, subst, ◌∙◌, cond, nat_lt, arith}
 use Rattle.std.specs.Option.{option_map, option_and_then}
 use Rattle.std.specs.List.{position, position_or_len, prefix_len, find, slice_get}
 use Rattle.std.specs.Str.{bytes_eq}
@@ -10,10 +10,15 @@ use Rattle.std.proofs.lemmas.Option.{slice_get_past}
 use Rattle.cep_base.proofs.Bytes.{bytes_eq_sym}
 use Rattle.cep_parse.specs.declared.raw.Span.{Span}
 use Rattle.cep_source.specs.declared.table.Table.{Table}
-use Rattle.cep_source.specs.Items.{Source, said}
+use Rattle.cep_source.specs.Items.{Source, said, RuleItem}
 use Rattle.cep_base.specs.FirstNames.{under_name}
-use Rattle.cep_source.specs.Firsts.{IsNamed}
-use Rattle.cep_source.specs.Spaces.{Named, named}
+use Rattle.cep_source.specs.Firsts.{IsNamed, IsTable, text_alone, unlabelled_over}
+use Rattle.cep_source.specs.Spaces.{Named, named, rule_name, rule_names_from, unlabelled_behind}
+use Rattle.cep_source.specs.declared.items.RuleRef.{RuleRef}
+use Rattle.cep_source.specs.declared.rules.Rules.{Rules}
+use Rattle.cep_source.specs.Kept.{AreRules, rule_item}
+
+-- At which place of a list a name stands, and what stands there.
 
 before_map : {X Y : Type 0} (p : Y → Bool) (f : X → Y) (xs : List X) → prefix_len (λ x. not (p (f x))) xs ≡ prefix_len (λ y. not (p y)) (map f xs)
 before_map p f [] = refl
@@ -88,3 +93,33 @@ pub push_map : {X Y : Type 0} (f : X → Y) (xs : List X) (i : ℕ) (d : X) (old
     → old ≡ map f (take i xs) → y ≡ f (get_or xs i d) → new ≡ old ++ y ∷ [] → new ≡ map f (take (i + 1) xs)
 push_map f xs i d old new y h was is_y is =
     is ∙ ap (λ ys. ys ++ y ∷ []) was ∙ ap (λ z. map f (take i xs) ++ z ∷ []) is_y ∙ sym (ap (map f) (take_more xs i d h) ∙ map-append f (take i xs) (get_or xs i d ∷ []))
+
+-- One rule more, and its name.
+
+over_more : (unlabelled : ℕ) (items : List RuleItem) (item : RuleItem) → unlabelled_over unlabelled (items ++ item ∷ []) ≡ unlabelled_behind (unlabelled_over unlabelled items) item.raw.label
+over_more unlabelled [] item = refl
+over_more unlabelled (x ∷ items) item = over_more (unlabelled_behind unlabelled x.raw.label) items item
+
+names_push : (source : Source) (unlabelled : ℕ) (items : List RuleItem) (item : RuleItem)
+    → rule_names_from source unlabelled (items ++ item ∷ []) ≡ rule_names_from source unlabelled items ++ record { name = rule_name source (unlabelled_over unlabelled items) item.raw.label; at = item.raw.at } ∷ []
+names_push source unlabelled [] item = refl
+names_push source unlabelled (x ∷ items) item = rw (names_push source (unlabelled_behind unlabelled x.raw.label) items item)
+
+module _ (text : List ℕ) (old new : Rules) (rule : RuleRef) (name : List ℕ) (were : AreRules text old) where
+  abbrev label : Option Span
+  label = rule.raw.now.label
+
+  abbrev before : List RuleItem
+  before = map rule_item old.table.items.items
+
+  abbrev names : List Named
+  names = rule_names_from (text_alone text) 0 before
+
+  pub rule_more : name ≡ rule_name (text_alone text) old.unlabelled label → new.unlabelled ≡ unlabelled_behind old.unlabelled label
+      → new.names.items ≡ old.names.items ++ name ∷ [] → new.table.items.items ≡ old.table.items.items ++ rule ∷ []
+      → ((names : List Named) → IsTable names old.table → IsTable (names ++ record { name = name; at = rule.raw.now.at } ∷ []) new.table)
+      → AreRules text new
+  rule_more called counted pushed listed declared = grind (arith, before, map-append, names, names_push, label, over_more)
+
+pub none_ruled : (text : List ℕ) (rules : Rules) → rules.table.items.items ≡ [] → rules.names.items ≡ [] → rules.unlabelled ≡ 0 → IsTable [] rules.table → AreRules text rules
+none_ruled text rules none nameless counted are = grind (arith, names)

@@ -6,9 +6,8 @@ use Rattle.cep_base.proofs.Lists.{none_some, get_mapped, map_last}
 use Rattle.cep_term.specs.Tree.{Tree, Trees, AtomTree}
 use Rattle.cep_store.specs.Held.{AreApart, IsFrontOf, StaysHeld, HasId}
 use Rattle.cep_store.specs.Keys.{atom_by, terms_by, atoms_by, held_by, IsKey, AreTermKeys, AreKeys, TakesPlace, AddsIds}
-use Rattle.cep_store.proofs.Places.{get_front, get_last, get_pushed, front_same, front_push}
-use Rattle.cep_store.proofs.Readings.{key_below, atom_stays, term_keys_none, is_key, reads_atom}
-use Rattle.cep_store.proofs.Differing.{contains_at, place_of_contained, atoms_apart}
+use Rattle.cep_store.proofs.Additions.{get_front, get_last, get_pushed, front_same, front_push, key_below, atom_stays, term_keys_none, is_key, reads_atom}
+use Rattle.cep_store.proofs.Readers.{contains_at, place_of_contained, atoms_apart}
 
 atoms_stay : (terms behind : List Tree) (keys : List (List ℕ)) → ((id : ℕ) (key : List ℕ) → slice_get keys id ≡ Some key → IsKey (length terms) key) → atoms_by (terms ++ behind) keys ≡ atoms_by terms keys
 atoms_stay terms behind [] each = refl

@@ -8,10 +8,9 @@ use Rattle.cep_rule.specs.Typing.{AreValues}
 use Rattle.cep_rule.specs.Shapes.{IsSmallTerm}
 use Rattle.cep_text.specs.Texts.{term_text, all_given_text}
 use Rattle.cep_text.specs.Reading.{Reader, literal_at, con_names, value_at, small_at, given_at, givens_at}
-use Rattle.cep_text.proofs.Literals.{literal_again, literal_found}
-use Rattle.cep_text.proofs.Numbers.{by_bind, some_is}
+use Rattle.cep_text.proofs.ValuesFound.{literal_again, literal_found, value_again}
+use Rattle.cep_text.proofs.TableLemmas.{by_bind, some_is}
 use Rattle.cep_text.proofs.Heads.{IsApart}
-use Rattle.cep_text.proofs.ValuesAgain.{value_again}
 use Rattle.cep_text.proofs.TermTexts.{SmallFound, small_found, small_again}
 
 -- The values are small and of the types, and what the variables are given stands before the rest.

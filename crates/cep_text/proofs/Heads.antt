@@ -11,7 +11,7 @@ use Rattle.cep_rule.specs.declared.signature.Con.{Con}
 use Rattle.cep_rule.specs.declared.signature.PredDecl.{PredDecl}
 use Rattle.cep_rule.specs.Names.{IsWord, IsName, AreNames}
 use Rattle.cep_text.specs.Reading.{literal_at, name_len, front_name, behind_name, number_among, con_names, pred_names, of_sort, con_at, pred_head, pred_at}
-use Rattle.cep_text.proofs.Numbers.{by_bind, guard_some, some_is, all_at, number_is, number_found, item_name}
+use Rattle.cep_text.proofs.TableLemmas.{by_bind, guard_some, some_is, all_at, number_is, number_found, item_name}
 
 -- No byte of a name stands at the front.
 abbrev pub IsApart : List ℕ → Type 0

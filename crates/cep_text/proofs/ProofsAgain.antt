@@ -16,12 +16,10 @@ use Rattle.cep_rule.specs.Program.{IsProgram}
 use Rattle.cep_rule.specs.Shapes.{AreAsMany}
 use Rattle.cep_text.specs.Texts.{clause_vars, all_given_text, begin_text, proof_text, proofs_text}
 use Rattle.cep_text.specs.Reading.{Reader, clause_at, begin_at, proofs_at, node_at, proof_at}
-use Rattle.cep_text.proofs.Literals.{literal_again}
+use Rattle.cep_text.proofs.ValuesFound.{literal_again, proof_more}
 use Rattle.cep_text.proofs.Heads.{IsApart, AreNameBytes, front_is, behind_is}
-use Rattle.cep_text.proofs.ClauseNumbers.{numbered_again}
+use Rattle.cep_text.proofs.ProofsFound.{numbered_again, clause_as_many}
 use Rattle.cep_text.proofs.GivensRead.{AreRead, givens_apart, givens_again}
-use Rattle.cep_text.proofs.Steps.{proof_more}
-use Rattle.cep_text.proofs.ProofsFound.{clause_as_many}
 
 -- digits are bytes of names
 and_both : (a b : Bool) → (a && b) ≡ true → (a ≡ true) × (b ≡ true)

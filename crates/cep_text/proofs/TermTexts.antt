@@ -14,10 +14,9 @@ use Rattle.cep_rule.specs.Shapes.{IsSmallTerm}
 use Rattle.cep_text.specs.Texts.{pred_name, term_text, args_text}
 use Rattle.cep_text.specs.Reads.{IsTermText, IsAtomText}
 use Rattle.cep_text.specs.Reading.{◌>>=◌, con_names, pred_names, pred_at, arguments_at, value_at, small_at, whole, term_read, atom_read}
-use Rattle.cep_text.proofs.Numbers.{by_bind, guard_some, none_is, all_at}
+use Rattle.cep_text.proofs.TableLemmas.{by_bind, guard_some, none_is, all_at}
 use Rattle.cep_text.proofs.Heads.{IsApart, pred_found, pred_again}
-use Rattle.cep_text.proofs.ValuesFound.{FoundAll, value_found, arguments_found}
-use Rattle.cep_text.proofs.ValuesAgain.{con_of, value_again, arguments_again, args_apart}
+use Rattle.cep_text.proofs.ValuesFound.{FoundAll, value_found, arguments_found, con_of, value_again, arguments_again, args_apart}
 
 -- A small value of the type, whose text stands before the rest.
 pub record SmallFound (signature : Signature) (sort : ℕ) (bytes : List ℕ) (t : Tree) (rest : List ℕ) : Type 0 where

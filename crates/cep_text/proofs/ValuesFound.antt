@@ -1,15 +1,48 @@
--- What is read as a term is the text of one.
-use Rattle.std.proofs.Common.{◌≡◌, ℕ, zero, suc, ◌≤◌, Bool, true, false, cond, eqb, List, [], ◌∷◌, ◌++◌, length, slice_get, codes, Option, Some, None, IsSomeAnd, refl, sym, ap, subst, ◌∙◌, arith, append_assoc, append-nil}
-use Rattle.std.proofs.lemmas.Bool.{eqb-true}
-use Rattle.cep_term.specs.Tree.{Tree, Trees, node, none, more, AreGround, term_depth, argument_depth}
+-- What is read as a term is the text of one, and the text of a term is read as that term.
+use Rattle.std.proofs.Common.{◌≡◌, ◌≢◌, ℕ, Bool, cond, eqb, List, [], ◌∷◌, ◌++◌, Option, Some, None, MatchOption, refl, ap, ◌∙◌, Bor, arith, zero, suc, ◌≤◌, true, false, length, slice_get, codes, IsSomeAnd, sym, subst, append_assoc, append-nil, ◌+◌, drop, ◌-◌}
+use Rattle.std.proofs.lemmas.Bool.{eqb-true, eq-eqb}
+use Rattle.cep_text.specs.Reading.{literal_at, Reader, con_at, bare_at, argument_at, arguments_at, inside_at, enclosed_at, value_by, value_at, ◌>>=◌, Fails, given_at, givens_at, proofs_at, node_at, proof_at, con_names}
+use Rattle.cep_term.specs.Tree.{Tree, Trees, node, none, more, AreGround, term_depth, argument_depth, variable, IsGround}
 use Rattle.cep_rule.specs.declared.signature.Con.{Con}
 use Rattle.cep_rule.specs.declared.signature.Signature.{Signature}
-use Rattle.cep_rule.specs.Typing.{HaveSorts, IsValue}
+use Rattle.cep_rule.specs.Typing.{HaveSorts, IsValue, HasSort}
 use Rattle.cep_text.specs.Texts.{con_name, term_text, args_text}
-use Rattle.cep_text.specs.Reading.{Reader, literal_at, con_at, bare_at, argument_at, arguments_at, inside_at, enclosed_at, value_by, value_at}
-use Rattle.cep_text.proofs.Literals.{literal_found}
-use Rattle.cep_text.proofs.Numbers.{by_bind, guard_some, some_is}
-use Rattle.cep_text.proofs.Heads.{con_found}
+use Rattle.cep_text.proofs.TableLemmas.{by_bind, guard_some, some_is, all_at, item_name}
+use Rattle.cep_text.proofs.Heads.{con_found, IsApart, con_again, no_parenthesis}
+use Rattle.cep_rule.specs.declared.parts.Parts.{Parts}
+use Rattle.cep_rule.specs.Derivations.{ProofTree, no_goal, goal_by}
+use Rattle.cep_text.specs.declared.stop.Stop.{Stop}
+use Rattle.cep_text.specs.declared.stop.Stop.TheVariants as stops
+use Rattle.cep_base.proofs.Drops.{drop_at-suc as from_place}
+use Rattle.std.proofs.Math.Dec.{eqb-suc-zero}
+use Rattle.cep_rule.specs.Names.{IsName, AreNames}
+
+-- Words at the front of a list.
+
+pub literal_again : (word rest : List ℕ) → literal_at word (word ++ rest) ≡ Some rest
+unfolding literal_at
+literal_again [] rest = refl
+literal_again (letter ∷ word) rest = rw (eq-eqb letter letter refl) (literal_again word rest)
+
+-- one byte of a word, after the test whether it is there
+found_byte : (letter byte : ℕ) (same : Bool) → eqb letter byte ≡ same → (word bytes rest : List ℕ) → (literal_at word bytes ≡ Some rest → bytes ≡ word ++ rest) → cond same (literal_at word bytes) None ≡ Some rest → byte ∷ bytes ≡ (letter ∷ word) ++ rest
+found_byte letter byte same t word bytes rest further e = grind (arith, eqb-true)
+
+none_from : (r : Option (List ℕ)) → ((rest : List ℕ) → r ≡ Some rest → ⊥) → r ≡ None
+none_from r h = grind arith
+
+pub literal_found : (word bytes rest : List ℕ) → literal_at word bytes ≡ Some rest → bytes ≡ word ++ rest
+unfolding literal_at
+literal_found [] bytes rest e = cc
+literal_found (letter ∷ word) [] rest e = absurd cc
+literal_found (letter ∷ word) (byte ∷ bytes) rest e = found_byte letter byte (eqb letter byte) refl word bytes rest (literal_found word bytes rest) e
+
+-- what `strip_prefix` says
+pub literal_is : (word bytes : List ℕ) (r : Option (Bor (List ℕ))) → MatchOption r ((rest : List ℕ) → bytes ≢ word ++ rest) (λ rest. bytes ≡ word ++ rest.now) → MatchOption r (literal_at word bytes ≡ None) (λ rest. literal_at word bytes ≡ Some rest.now)
+literal_is word bytes None h = none_from (literal_at word bytes) (λ rest e. h rest (literal_found word bytes rest e))
+literal_is word bytes (Some rest) h = ap (literal_at word) h ∙ literal_again word rest.now
+
+-- What is read as a term is the text of one.
 
 -- The term is a value of the type, of at most so many levels, and its text stands before the rest.
 pub record Found (signature : Signature) (depth sort : ℕ) (bytes : List ℕ) (t : Tree) (rest : List ℕ) : Type 0 where
@@ -129,3 +162,155 @@ pub value_found : (signature : Signature) (depth : ℕ) → IsSound signature de
 unfolding value_at
 value_found signature zero sort bytes t rest e = absurd cc
 value_found signature (suc depth) sort bytes t rest e = by_cases signature depth (value_at signature.cons depth) (value_found signature depth) sort bytes (literal_at (codes "(") bytes) t rest refl e
+
+-- One step of a reading, as the functions take it.
+
+-- a step that fails makes the whole fail
+pub fails_first : {A B : Type 0} (stop : Stop) (r : Option A) (f : A → Option B) → Fails stop r → Fails stop (r >>= f)
+fails_first stop r f failed = grind arith
+
+pub value_zero : (cons : List Con) (depth sort : ℕ) (bytes : List ℕ) → depth ≡ 0 → value_at cons depth sort bytes ≡ None
+unfolding value_at
+value_zero cons zero sort bytes e = refl
+value_zero cons (suc depth) sort bytes e = absurd (omega arith)
+
+pub value_more : (cons : List Con) (depth less sort : ℕ) (bytes : List ℕ) → depth ≡ suc less → value_at cons depth sort bytes ≡ value_by (value_at cons less) cons sort (literal_at (codes "(") bytes) bytes
+unfolding value_at
+value_more cons depth less sort bytes e = ap (λ d. value_at cons d sort bytes) e
+
+from_end : {X : Type 0} (items : List X) (i : ℕ) → i ≡ length items → drop i items ≡ []
+from_end (x ∷ items) (suc i) e = from_end items i (omega arith)
+from_end items i e = grind arith
+
+pub arguments_end : (value : ℕ → Reader Tree) (kinds : List ℕ) (i : ℕ) (bytes : List ℕ) → i ≡ length kinds → arguments_at value (drop i kinds) bytes ≡ Some (none, bytes)
+unfolding arguments_at
+arguments_end value kinds i bytes e = rw (from_end kinds i e) refl
+
+-- the arguments from one place on
+pub arguments_next : (value : ℕ → Reader Tree) (kinds : List ℕ) (i kind : ℕ) (bytes : List ℕ) → slice_get kinds i ≡ Some kind
+    → arguments_at value (drop i kinds) bytes ≡ (argument_at (value kind) bytes >>= λ first. (arguments_at value (drop (i + 1) kinds) first.1 >>= λ others. Some (more first.0 others.0, others.1)))
+unfolding arguments_at
+arguments_next value kinds i kind bytes e =
+    let on : i + 1 ≡ suc i = omega arith in
+    rw (on, from_place kinds i kind e) refl
+
+-- what the variables from one place on are given
+pub givens_end : (value : ℕ → Reader Tree) (names : List (List ℕ)) (kinds : List ℕ) (i : ℕ) (values : List Tree) (bytes : List ℕ) → i ≡ length names → givens_at value (drop i names) (drop i kinds) values bytes ≡ Some (values, bytes)
+unfolding givens_at
+givens_end value names kinds i values bytes e = rw (from_end names i e) refl
+
+pub givens_next : (value : ℕ → Reader Tree) (names : List (List ℕ)) (kinds : List ℕ) (i : ℕ) (name : List ℕ) (kind : ℕ) (values : List Tree) (bytes : List ℕ) → slice_get names i ≡ Some name → slice_get kinds i ≡ Some kind
+    → givens_at value (drop i names) (drop i kinds) values bytes ≡ (given_at (value kind) name bytes >>= λ first. givens_at value (drop (i + 1) names) (drop (i + 1) kinds) (values ++ first.0 ∷ []) first.1)
+unfolding givens_at
+givens_next value names kinds i name kind values bytes e f =
+    let on : i + 1 ≡ suc i = omega arith in
+    rw (on, from_place names i name e, from_place kinds i kind f) refl
+
+pub proof_zero : (program : Parts) (value : ℕ → Reader Tree) (height : ℕ) (bytes : List ℕ) → height ≡ 0 → proof_at program value height bytes ≡ None
+unfolding proof_at
+proof_zero program value zero bytes e = refl
+proof_zero program value (suc height) bytes e = absurd (omega arith)
+
+pub proof_more : (program : Parts) (value : ℕ → Reader Tree) (height less : ℕ) (bytes : List ℕ) → height ≡ suc less → proof_at program value height bytes ≡ node_at program value (proof_at program value less) bytes
+unfolding proof_at
+proof_more program value height less bytes e = ap (λ h. proof_at program value h bytes) e
+
+pub proofs_zero : (proof : Reader ProofTree) (goals : ℕ) (bytes : List ℕ) → goals ≡ 0 → proofs_at proof goals bytes ≡ Some (no_goal, bytes)
+unfolding proofs_at
+proofs_zero proof zero bytes e = refl
+proofs_zero proof (suc goals) bytes e = absurd (omega arith)
+
+pub proofs_more : (proof : Reader ProofTree) (goals less : ℕ) (bytes : List ℕ) → goals ≡ suc less
+    → proofs_at proof goals bytes ≡ (literal_at (codes " ") bytes >>= λ space. (proof space >>= λ first. (proofs_at proof less first.1 >>= λ others. Some (goal_by first.0 others.0, others.1))))
+unfolding proofs_at
+proofs_more proof goals less bytes e = ap (λ n. proofs_at proof n bytes) e
+
+-- The text of a term is read as that term.
+
+-- the constructor of a term that is well typed
+pub record ConOf (cons : List Con) (sort number : ℕ) (args : Trees) : Type 0 where
+  pub con : Con
+  pub numbered : slice_get cons number ≡ Some con
+  pub of_type : con.sort ≡ sort
+  pub typed : HaveSorts cons [] con.args args
+
+pub con_of : (cons : List Con) (sort number : ℕ) (args : Trees) (found : Option Con) → slice_get cons number ≡ found → IsSomeAnd found (λ con. (con.sort ≡ sort) × HaveSorts cons [] con.args args) → ConOf cons sort number args
+con_of cons sort number args found e typed = grind arith
+
+pub args_apart : (signature : Signature) (args : Trees) (rest : List ℕ) → IsApart rest → IsApart (args_text signature args ++ rest)
+args_apart signature none rest apart = apart
+args_apart signature (more t others) rest apart = refl
+
+-- the arguments of a term are read again
+abbrev AreReadAgain : Signature → ℕ → List ℕ → Trees → Type 0
+AreReadAgain signature depth sorts args = (rest : List ℕ) → IsApart rest → arguments_at (value_at signature.cons depth) sorts (args_text signature args ++ rest) ≡ Some (args, rest)
+
+bare_again : (signature : Signature) (sort number : ℕ) (rest : List ℕ) → AreNames (con_names signature.cons) → (of : ConOf signature.cons sort number none) → IsApart rest
+    → (kinds : List ℕ) → of.con.args ≡ kinds → HaveSorts signature.cons [] kinds none → bare_at signature.cons sort (of.con.name ++ rest) ≡ Some (node number none, rest)
+unfolding bare_at
+bare_again signature sort number rest names of apart [] e typed = rw (con_again signature.cons sort number of.con rest names of.numbered of.of_type apart, e) refl
+bare_again signature sort number rest names of apart (kind ∷ kinds) e typed = absurd typed
+
+inside_again : (signature : Signature) (depth : ℕ) (kinds : List ℕ) (t : Tree) (others : Trees) (rest : List ℕ) → HaveSorts signature.cons [] kinds (more t others) → AreReadAgain signature depth kinds (more t others)
+    → inside_at (value_at signature.cons depth) kinds (args_text signature (more t others) ++ (codes ")" ++ rest)) ≡ Some (more t others, rest)
+unfolding inside_at
+inside_again signature depth [] t others rest typed again = absurd typed
+inside_again signature depth (kind ∷ kinds) t others rest typed again =
+    let some : eqb (length (kind ∷ kinds)) 0 ≡ false = eqb-suc-zero (length kinds) in
+    rw (some, again (codes ")" ++ rest) refl, literal_again (codes ")") rest) refl
+
+enclosed_again : (signature : Signature) (depth sort number : ℕ) (t : Tree) (others : Trees) (rest : List ℕ) → AreNames (con_names signature.cons) → (of : ConOf signature.cons sort number (more t others)) → AreReadAgain signature depth of.con.args (more t others)
+    → enclosed_at (value_at signature.cons depth) signature.cons sort (of.con.name ++ (args_text signature (more t others) ++ (codes ")" ++ rest))) ≡ Some (node number (more t others), rest)
+unfolding enclosed_at
+enclosed_again signature depth sort number t others rest names of again =
+    let behind = args_text signature (more t others) ++ (codes ")" ++ rest) in
+    rw (con_again signature.cons sort number of.con behind names of.numbered of.of_type refl, inside_again signature depth of.con.args t others rest of.typed again) refl
+
+node_again : (signature : Signature) (depth sort number : ℕ) (args : Trees) (rest : List ℕ) → AreNames (con_names signature.cons) → (of : ConOf signature.cons sort number args) → AreReadAgain signature depth of.con.args args → IsApart rest
+    → value_by (value_at signature.cons depth) signature.cons sort (literal_at (codes "(") (term_text signature (node number args) ++ rest)) (term_text signature (node number args) ++ rest) ≡ Some (node number args, rest)
+node_again signature depth sort number none rest names of again apart =
+    let name = of.con.name in
+    let is_name = all_at IsName (con_names signature.cons) number name names.each (item_name (λ con. con.name) signature.cons number of.con of.numbered) in
+    let text : term_text signature (node number none) ≡ name = ap (λ c. con_name c ++ []) of.numbered ∙ append-nil name in
+    rw (text, no_parenthesis name rest is_name) (bare_again signature sort number rest names of apart of.con.args refl of.typed)
+node_again signature depth sort number (more t others) rest names of again apart =
+    let name = of.con.name in
+    let args = args_text signature (more t others) in
+    let inside = ((con_name (slice_get signature.cons number) ++ args) ++ codes ")") ++ rest in
+    let whole : inside ≡ name ++ (args ++ (codes ")" ++ rest)) =
+    ap (λ c. ((con_name c ++ args) ++ codes ")") ++ rest) of.numbered ∙ append_assoc (name ++ args) (codes ")") rest ∙ append_assoc name args (codes ")" ++ rest) in
+    ap (λ found. value_by (value_at signature.cons depth) signature.cons sort found (codes "(" ++ inside)) (literal_again (codes "(") inside)
+    ∙ ap (enclosed_at (value_at signature.cons depth) signature.cons sort) whole
+    ∙ enclosed_again signature depth sort number t others rest names of again
+
+argument_again : (signature : Signature) (depth sort : ℕ) (t : Tree) (text behind : List ℕ) → value_at signature.cons depth sort (text ++ behind) ≡ Some (t, behind) → argument_at (value_at signature.cons depth sort) (codes " " ++ (text ++ behind)) ≡ Some (t, behind)
+unfolding argument_at
+argument_again signature depth sort t text behind e = rw (literal_again (codes " ") (text ++ behind)) e
+
+mutual
+  unfolding arguments_at
+
+  pub value_again : (signature : Signature) → AreNames (con_names signature.cons) → (t : Tree) (depth sort : ℕ) (rest : List ℕ) → IsGround t → HasSort signature.cons [] sort t → term_depth t ≤ depth → IsApart rest
+      → value_at signature.cons depth sort (term_text signature t ++ rest) ≡ Some (t, rest)
+  value_again signature names (variable v) depth sort rest g typed low apart = absurd g
+  value_again signature names (node number args) depth sort rest g typed low apart =
+      let more_levels : depth ≡ suc (depth - 1) = omega arith in
+      let of = con_of signature.cons sort number args (slice_get signature.cons number) refl typed in
+      let inner : argument_depth args ≤ depth - 1 = omega arith in
+      value_more signature.cons depth (depth - 1) sort (term_text signature (node number args) ++ rest) more_levels
+      ∙ node_again signature (depth - 1) sort number args rest names of (λ behind behind_apart. arguments_again signature names args (depth - 1) of.con.args behind g of.typed inner behind_apart) apart
+
+  pub arguments_again : (signature : Signature) → AreNames (con_names signature.cons) → (args : Trees) (depth : ℕ) (sorts rest : List ℕ) → AreGround args → HaveSorts signature.cons [] sorts args → argument_depth args ≤ depth → IsApart rest
+      → arguments_at (value_at signature.cons depth) sorts (args_text signature args ++ rest) ≡ Some (args, rest)
+  arguments_again signature names none depth [] rest g typed low apart = refl
+  arguments_again signature names none depth (sort ∷ sorts) rest g typed low apart = absurd typed
+  arguments_again signature names (more t others) depth [] rest g typed low apart = absurd typed
+  arguments_again signature names (more t others) depth (sort ∷ sorts) rest g typed low apart =
+      let first : term_depth t ≤ depth = omega arith in
+      let then_others : argument_depth others ≤ depth = omega arith in
+      let text = term_text signature t in
+      let behind = args_text signature others ++ rest in
+      let one = value_again signature names t depth sort behind g.0 typed.0 first (args_apart signature others rest apart) in
+      let all = arguments_again signature names others depth sorts rest g.1 typed.1 then_others apart in
+      ap (λ bytes. arguments_at (value_at signature.cons depth) (sort ∷ sorts) (codes " " ++ bytes)) (append_assoc text (args_text signature others) rest)
+      ∙ rw (argument_again signature depth sort t text behind one, all) refl

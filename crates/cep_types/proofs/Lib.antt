@@ -1,4 +1,2 @@
 pub mod Meeting
-pub mod FirstOccurrences
-pub mod Clashing
 pub mod Mistaken

@@ -1,5 +1,5 @@
--- Sums of factors, one after another, and what bounds the copies of a predicate.
-use Rattle.std.proofs.Common.{◌≡◌, ⊎_elim, Bool, true, false, cond, not, ◌&&◌, ◌==◌, ℕ, ◌+◌, ◌*◌, ◌/◌, ◌<◌, ◌≤◌, List, [], ◌∷◌, map, Contains, refl, sym, ap, subst, ◌∙◌, arith, le-div_iff_mul-le, ℤ, pos, ◌+ℤ◌, ◌*ℤ◌, ◌≤ℤ◌, ◌<ℤ◌}
+-- Factors one after another, and what a claim that is kept says of runs.
+use Rattle.std.proofs.Common.{◌≡◌, ⊎_elim, Bool, true, false, cond, not, ◌&&◌, ◌==◌, ℕ, ◌+◌, ◌*◌, ◌/◌, ◌<◌, ◌≤◌, List, [], ◌∷◌, map, Contains, refl, sym, ap, subst, ◌∙◌, arith, le-div_iff_mul-le, ℤ, pos, ◌+ℤ◌, ◌*ℤ◌, ◌≤ℤ◌, ◌<ℤ◌, length, slice_get, Some, ◌-ℤ◌}
 use Rattle.std.specs.Prelude.{filter, count_by}
 use Rattle.std.proofs.lemmas.Int.{ints}
 use Rattle.std.proofs.lemmas.List.Sums.{sum_by-cons}
@@ -7,12 +7,19 @@ use Rattle.cep_base.proofs.Elements.{all_at, contains_cases}
 use Rattle.cep_term.specs.Multiset.{Multiset}
 use Rattle.cep_rule.specs.Patterns.{PremiseTree}
 use Rattle.cep_weigh.specs.declared.weight.Claim.{Claim}
-use Rattle.cep_weigh.specs.declared.weight.Claim.TheVariants.{Most}
+use Rattle.cep_weigh.specs.declared.weight.Claim.TheVariants.{Most, Fall}
 use Rattle.cep_weigh.specs.declared.weight.Part.{Part}
-use Rattle.cep_weigh.specs.Weights.{weighed, copies_of_pred, weight_of, Wants, ArePositive, factors_of}
-use Rattle.cep_weigh.specs.WeightRuns.{GoesAsClaimed}
-use Rattle.cep_weigh.proofs.Sums.{weighed_sum, weighed_none, weighed_one, positive_not_negative, part_within}
-use Rattle.cep_weigh.proofs.Runs.{run_falls}
+use Rattle.cep_weigh.specs.Weights.{weighed, copies_of_pred, weight_of, Wants, ArePositive, factors_of, left_sum, right_sum, KeepsTo, AllKeepTo, AreNotNegative}
+use Rattle.cep_weigh.specs.WeightRuns.{GoesAsClaimed, HoldsOfRun, HoldsOfRuns}
+use Rattle.cep_weigh.proofs.Sums.{weighed_sum, weighed_none, weighed_one, positive_not_negative, part_within, run_falls, run_claimed, run_keeps, run_ends}
+use Rattle.std.proofs.lemmas.Option.{slice_get_within}
+use Rattle.cep_base.proofs.Lists.{all_from_places}
+use Rattle.cep_term.specs.Tree.{Tree}
+use Rattle.cep_rule.specs.declared.rule.Rule.{Rule}
+use Rattle.cep_rule.specs.declared.parts.Parts.{Parts}
+use Rattle.cep_rule.specs.Step.{Step}
+
+-- Sums of factors, one after another, and what bounds the copies of a predicate.
 
 module _ {X : Type 0} (pred_of : X → ℕ) (parts : List Part) where
   counts_one : (x : X) (xs : List X) (p : ℕ) → count_by (λ y. pred_of y == p) (x ∷ xs) ≡ cond (pred_of x == p) 1 0 + count_by (λ y. pred_of y == p) xs
@@ -69,3 +76,17 @@ copies_bounded claim parts part state later run weight factor goes some there is
     divided factor weight (copies_of_pred later part.pred) part.factor (weight_of parts state) is_factor is_weight
     (all_at (λ (p : Part). pos 0 <ℤ p.factor) parts part some there)
     (no_greater _ _ _ (part_within parts part (copies_of_pred later) (positive_not_negative parts some) there) low)
+
+-- What a claim that is kept says of runs.
+
+run_holds : (claim : Claim) (parts : List Part) (state : Multiset) (run : List Multiset) → (claim ≡ Fall → AreNotNegative parts) → GoesAsClaimed claim parts state run → HoldsOfRun claim parts state run
+run_holds claim parts state run signs goes = grind (arith, run_keeps, run_ends)
+
+pub claims_hold : (program : Parts) (claim : Claim) (parts : List Part)
+    → ((rule : Rule) (values : List Tree) (old new : Multiset) → Step program.signature rule values old new → weight_of parts new ≡ weight_of parts old +ℤ (right_sum parts rule -ℤ left_sum parts rule))
+    → (claim ≡ Fall → AreNotNegative parts) → AllKeepTo program claim parts → HoldsOfRuns program claim parts
+claims_hold program claim parts changes signs kept = grind (arith, run_holds, run_claimed, copies_bounded, program.start)
+
+pub kept_all : (program other : Parts) (claim : Claim) (sum parts : List Part) (i : ℕ) → other ≡ program → parts ≡ sum → length other.rules ≤ i
+    → ((number : ℕ) (rule : Rule) → number < i → slice_get other.rules number ≡ Some rule → KeepsTo claim parts rule) → AllKeepTo program claim sum
+kept_all program other claim sum parts i same is all each = grind (arith, all_from_places, slice_get_within, other.rules)

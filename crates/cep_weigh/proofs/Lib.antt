@@ -1,14 +1,7 @@
 pub mod Worths
-pub mod CopiesOf
-pub mod Sides
-pub mod Sums
-pub mod Runs
 pub mod Factors
-pub mod Holding
-pub mod Numbers
 pub mod Parted
 pub mod Tabled
 pub mod Numbered
-pub mod Adding
+pub mod Sums
 pub mod Lined
-pub mod OneReading

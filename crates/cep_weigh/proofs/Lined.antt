@@ -1,10 +1,10 @@
--- The lines that were read so far, and what is said of all of them.
-use Rattle.std.proofs.Common.{◌≡◌, ◌⊎◌, inl, inr, ℕ, ◌+◌, ◌<◌, ◌≤◌, List, [], ◌∷◌, ◌++◌, length, refl, sym, ap, ◌∙◌, subst, arith, length-append, append_assoc, slice_get, Bool, false, Result, Ok, Err}
+-- Lines and numbers of claims that are read, in one way.
+use Rattle.std.proofs.Common.{◌≡◌, ◌⊎◌, inl, inr, ℕ, ◌+◌, ◌<◌, ◌≤◌, List, [], ◌∷◌, ◌++◌, length, refl, sym, ap, ◌∙◌, subst, arith, length-append, append_assoc, slice_get, Bool, false, Result, Ok, Err, ◌^◌, ℤ, ◌≢◌, ⊎_elim, suc, true, map, Contains, IsSomeAnd}
 use Rattle.std.specs.Prelude.{IfOk, IfErr, IsTrue, ◌↔◌}
 use Rattle.cep_base.specs.declared.kind.PredKind.TheVariants.{Linear}
 use Rattle.std.specs.List.{AllByRecursion}
 use Rattle.std.proofs.lemmas.List.{append-nil}
-use Rattle.cep_base.proofs.Elements.{both_all}
+use Rattle.cep_base.proofs.Elements.{both_all, contains_cases}
 use Rattle.cep_rule.specs.declared.signature.Signature.{Signature}
 use Rattle.cep_rule.specs.declared.parts.Parts.{Parts}
 use Rattle.cep_weigh.specs.declared.weight.Part.{Part}
@@ -12,8 +12,22 @@ use Rattle.cep_weigh.specs.declared.weight.Weight.{Weight}
 use Rattle.cep_weigh.specs.declared.fault.KeepFault.{KeepFault}
 use Rattle.cep_weigh.specs.declared.written.NamedPart.{NamedPart}
 use Rattle.cep_weigh.specs.Weights.{IsFactor, AreOfLinear, IsWeightOf}
-use Rattle.cep_weigh.specs.Claims.{claim_lines, SaysNothing, IsNamedPart, AreResolved, IsClaimOf, IsClaimFault, AddsLine, AddClaims, HasClaims, HasFault}
+use Rattle.cep_weigh.specs.Claims.{claim_lines, SaysNothing, IsNamedPart, AreResolved, IsClaimOf, IsClaimFault, AddsLine, AddClaims, HasClaims, HasFault, claim_word, parts_words, IsWrittenAs, IsLinearNamed, SomeIsUnknown, IsNamedBefore, IsResolvedLine, SaysTwice}
 use Rattle.cep_base.proofs.Options.{some_weaker as some_as}
+use Rattle.std.specs.Int.RustNames.{FitsSigned}
+use Rattle.std.specs.Fmt.{signed_decimal}
+use Rattle.std.proofs.lemmas.Fmt.{signed_decimal_injective}
+use Rattle.std.proofs.lemmas.Int.{ints}
+use lib.Signed.{mag}
+use mir.Syntax.{w64}
+use Rattle.cep_rule.specs.declared.signature.PredDecl.{PredDecl}
+use Rattle.cep_rule.specs.Names.{AllDiffer}
+use Rattle.cep_weigh.specs.declared.weight.Claim.{Claim}
+use Rattle.cep_weigh.specs.declared.weight.Claim.TheVariants as claim
+use Rattle.cep_weigh.specs.declared.fault.KeepFault.TheVariants.{Keep, KeepName, KeepTwice, KeepSign}
+use Rattle.cep_weigh.specs.declared.written.Written.{Written}
+
+-- The lines that were read so far, and what is said of all of them.
 
 -- Of all lines these are left; those before add these claims.
 pub record LinesSoFar (signature : Signature) (lines left : List (List ℕ)) (number : ℕ) (claims : List Weight) : Type 0 where
@@ -76,3 +90,177 @@ told_err {T = T} r e P is h = let k : IfErr {T = T} (Err e) P = subst (λ s. IfE
 
 pub not_twice : (b : Bool) (P Q : Type 0) → (IsTrue b ↔ P) → b ≡ false → Q → (P ⊎ ¬ Q) → ⊥
 not_twice b P Q tells is q given = grind arith
+
+-- Factors as numbers: they are small, and each is spelled in one way.
+
+pub small : (z : ℤ) → IsFactor z → mag z < 2 ^ 63
+small z is = grind (arith, ints)
+
+pub fits : (z : ℤ) → IsFactor z → FitsSigned w64 z
+fits z is = record { sfits = small z is }
+
+pub one_factor : (y z : ℤ) → IsFactor y → IsFactor z → signed_decimal y ≡ signed_decimal z → y ≡ z
+one_factor y z is is' e = signed_decimal_injective y z (small y is) (small z is') e
+
+-- A file of claims says one list of claims or has one fault.
+
+-- a line is written as one claim
+abbrev head_of : List ℕ → ℕ
+head_of [] = 0
+head_of (byte ∷ bytes) = byte
+
+abbrev first_byte : Claim → ℕ
+first_byte claim.Keep = 107
+first_byte claim.Most = 109
+first_byte claim.Fall = 102
+
+begins : (c : Claim) → head_of (claim_word c) ≡ first_byte c
+begins c = grind arith
+
+one_word : (one other : Claim) → claim_word one ≡ claim_word other → one ≡ other
+one_word one other e = grind (arith, begins)
+
+one_sum : (first : Bool) (parts others : List NamedPart) → AllByRecursion IsNamedPart parts → AllByRecursion IsNamedPart others → parts_words first parts ≡ parts_words first others → parts ≡ others
+one_sum first [] [] each each' e = refl
+one_sum first (part ∷ parts) (other ∷ others) each each' e = grind (arith, one_factor part.factor other.factor each.0.factor each'.0.factor cc, one_sum false parts others each.1 each'.1 cc)
+one_sum first parts others each each' e = absurd cc
+
+one_written : (line : List ℕ) (one other : Written) → IsWrittenAs line one → IsWrittenAs line other → one ≡ other
+one_written line one other is is' = grind (arith, sym is.words ∙ is'.words, one_word one.claim other.claim cc, one_sum true one.parts other.parts is.writable.parts is'.writable.parts cc)
+
+-- a name is that of one predicate
+abbrev Named : List PredDecl → ℕ → List ℕ → Type 0
+Named preds pred name = IsSomeAnd (slice_get preds pred) (λ decl. (decl.name ≡ name) × (decl.kind ≡ Linear))
+
+among : (preds : List PredDecl) (pred : ℕ) (name other : List ℕ) → AllByRecursion (λ next. other ≢ next) (map (λ decl. decl.name) preds) → Named preds pred name → other ≡ name → ⊥
+among (decl ∷ preds) (suc pred) name other apart is e = among preds pred name other apart.1 is e
+among preds pred name other apart is e = grind arith
+
+one_pred : (preds : List PredDecl) (one other : ℕ) (name : List ℕ) → AllDiffer (map (λ decl. decl.name) preds) → Named preds one name → Named preds other name → one ≡ other
+one_pred (decl ∷ preds) (suc one) (suc other) name differ is is' = ap suc (one_pred preds one other name differ.1 is is')
+one_pred preds one other name differ is is' = grind (arith, among)
+
+module _ (signature : Signature) (differ : AllDiffer (map (λ decl. decl.name) signature.preds)) where
+  one_numbering : (parts : List NamedPart) (one other : List Part) → AreResolved signature parts one → AreResolved signature parts other → one ≡ other
+  one_numbering (named ∷ parts) (part ∷ one) (part' ∷ other) are are' = grind (arith, one_pred signature.preds part.pred part'.pred named.name differ are.1 are'.1, are.0 ∙ sym are'.0, one_numbering parts one other are.2 are'.2)
+  one_numbering parts one other are are' = grind arith
+
+  sum_of_line : (line : List ℕ) (one other : Written) (sum sum' : List Part) → IsWrittenAs line one → IsWrittenAs line other → AreResolved signature one.parts sum → AreResolved signature other.parts sum' → sum ≡ sum'
+  sum_of_line line one other sum sum' is is' are are' = grind (arith, one_numbering, one_written, other.parts)
+
+  -- a line says one claim
+  one_claim : (earlier : List Weight) (line : List ℕ) (number : ℕ) (one other : Weight) → IsClaimOf signature earlier line number one → IsClaimOf signature earlier line number other → one ≡ other
+  one_claim earlier line number one other is is' =
+      let same = one_written line is.written is'.written is.line_is is'.line_is in
+      let lines : one.line ≡ other.line = is.number_is ∙ sym is'.number_is in
+      let claims : one.claim ≡ other.claim = is.claim_is ∙ ap (λ (w : Written). w.claim) same ∙ sym is'.claim_is in
+      let sums : one.sum ≡ other.sum = sum_of_line line is.written is'.written one.sum other.sum is.line_is is'.line_is is.numbered is'.numbered in
+      λ i. record { line = lines i; claim = claims i; name = (is.name_is ∙ ap (λ (w : Written). w.name) same ∙ sym is'.name_is) i; sum = sums i }
+
+  one_line : (number : ℕ) (line : List ℕ) (earlier one other : List Weight) → AddsLine signature number line earlier one → AddsLine signature number line earlier other → one ≡ other
+  one_line number line earlier one other (inl a) (inl b) = a.1 ∙ sym b.1
+  one_line number line earlier one other (inl a) (inr b) = absurd (b.1 a.0)
+  one_line number line earlier one other (inr a) (inl b) = absurd (a.1 b.0)
+  one_line number line earlier one other (inr a) (inr b) = a.3 ∙ ap (λ (w : Weight). earlier ++ w ∷ []) (one_claim earlier line number a.0 b.0 a.2 b.2) ∙ sym b.3
+
+  one_adding : (number : ℕ) (lines : List (List ℕ)) (earlier one other : List Weight) → AddClaims signature number lines earlier one → AddClaims signature number lines earlier other → one ≡ other
+  one_adding number [] earlier one other a b = a ∙ sym b
+  one_adding number (line ∷ lines) earlier one other a b = one_adding (number + 1) lines b.0 one other (subst (λ after. AddClaims signature (number + 1) lines after one) (one_line number line earlier a.0 b.0 a.1 b.1) a.2) b.2
+
+  -- a line has one fault, and then it says no claim
+  known_at : (parts : List NamedPart) (sum : List Part) (named : NamedPart) → AreResolved signature parts sum → Contains parts named → (pred : ℕ) × IsLinearNamed signature pred named.name
+  known_at (first ∷ parts) (part ∷ sum) named are there =
+      ⊎_elim (λ (same : first ≡ named). (part.pred, subst (λ (p : NamedPart). IsLinearNamed signature part.pred p.name) same are.1))
+      (λ later. known_at parts sum named are.2 later) (contains_cases first parts named there)
+  known_at parts sum named are there = grind arith
+
+  none_unknown : (line : List ℕ) (one other : Written) (sum : List Part) → IsWrittenAs line one → IsWrittenAs line other → AreResolved signature other.parts sum → ¬ SomeIsUnknown signature one.parts
+  none_unknown line one other sum is is' are unknown =
+      let known = known_at other.parts sum unknown.0 are (subst (λ (w : Written). Contains w.parts unknown.0) (one_written line one other is is') unknown.1) in
+      unknown.2 known.0 known.1
+
+  twice_too : (earlier : List Weight) (line : List ℕ) (one other : IsResolvedLine signature line) → SaysTwice earlier one → SaysTwice earlier other
+  twice_too earlier line one other given = grind (arith, one_written, sum_of_line)
+
+  known_of : (earlier : List Weight) (line : List ℕ) (number : ℕ) (weight : Weight) → IsClaimOf signature earlier line number weight → IsResolvedLine signature line
+  known_of earlier line number weight is = record { written = is.written; line_is = is.line_is; sum = weight.sum; numbered = is.numbered }
+
+  not_twice_said : (earlier : List Weight) (line : List ℕ) (number : ℕ) (weight : Weight) (is : IsClaimOf signature earlier line number weight) → SaysTwice earlier (known_of earlier line number weight is) → ⊥
+  unfolding known_of
+  not_twice_said earlier line number weight is (inl named) = is.fresh (subst (IsNamedBefore earlier) (sym is.name_is) named)
+  not_twice_said earlier line number weight is (inr never) = never is.apart
+
+  claim_or_fault : (earlier : List Weight) (line : List ℕ) (number at : ℕ) (weight : Weight) (fault : KeepFault) → IsClaimOf signature earlier line number weight → IsClaimFault signature earlier line at fault → ⊥
+  claim_or_fault earlier line number at weight fault is why = grind (arith, none_unknown, twice_too, known_of, one_written, sum_of_line)
+
+  one_fault : (earlier : List Weight) (line : List ℕ) (at : ℕ) (one other : KeepFault) → IsClaimFault signature earlier line at one → IsClaimFault signature earlier line at other → one ≡ other
+  one_fault earlier line at (Keep n) (Keep m) a b = ap Keep (a.0 ∙ sym b.0)
+  one_fault earlier line at (Keep n) (KeepName m) a b = absurd (a.1 b.1.0 b.1.1)
+  one_fault earlier line at (KeepName n) (Keep m) a b = absurd (b.1 a.1.0 a.1.1)
+  one_fault earlier line at (KeepName n) (KeepName m) a b = ap KeepName (a.0 ∙ sym b.0)
+  one_fault earlier line at (KeepName n) (KeepTwice m) a b = absurd (none_unknown line a.1.0 b.1.0.written b.1.0.sum a.1.1 b.1.0.line_is b.1.0.numbered a.1.2)
+  one_fault earlier line at (KeepName n) (KeepSign m) a b = absurd (none_unknown line a.1.0 b.1.0.written b.1.0.sum a.1.1 b.1.0.line_is b.1.0.numbered a.1.2)
+  one_fault earlier line at (KeepTwice n) (Keep m) a b = absurd (b.1 a.1.0.written a.1.0.line_is)
+  one_fault earlier line at (KeepTwice n) (KeepName m) a b = absurd (none_unknown line b.1.0 a.1.0.written a.1.0.sum b.1.1 a.1.0.line_is a.1.0.numbered b.1.2)
+  one_fault earlier line at (KeepTwice n) (KeepTwice m) a b = ap KeepTwice (a.0 ∙ sym b.0)
+  one_fault earlier line at (KeepTwice n) (KeepSign m) a b = absurd (b.1.1 (twice_too earlier line a.1.0 b.1.0 a.1.1))
+  one_fault earlier line at (KeepSign n) (Keep m) a b = absurd (b.1 a.1.0.written a.1.0.line_is)
+  one_fault earlier line at (KeepSign n) (KeepName m) a b = absurd (none_unknown line b.1.0 a.1.0.written a.1.0.sum b.1.1 a.1.0.line_is a.1.0.numbered b.1.2)
+  one_fault earlier line at (KeepSign n) (KeepTwice m) a b = absurd (a.1.1 (twice_too earlier line b.1.0 a.1.0 b.1.1))
+  one_fault earlier line at (KeepSign n) (KeepSign m) a b = ap KeepSign (a.0 ∙ sym b.0)
+  one_fault earlier line at one other a b = absurd (a.1 b.1.0.written b.1.0.line_is)
+
+  adds_or_fault : (earlier after : List Weight) (line : List ℕ) (number at : ℕ) (fault : KeepFault) → AddsLine signature number line earlier after → ¬ SaysNothing line → IsClaimFault signature earlier line at fault → ⊥
+  adds_or_fault earlier after line number at fault (inl none) says why = says none.0
+  adds_or_fault earlier after line number at fault (inr one) says why = claim_or_fault earlier line number at one.0 fault one.2 why
+
+  -- the first line that says no claim is one
+  heads : (a b : List ℕ) (xs ys : List (List ℕ)) → a ∷ xs ≡ b ∷ ys → a ≡ b
+  heads a b xs ys e = cc
+
+  tails : (a b : List ℕ) (xs ys : List (List ℕ)) → a ∷ xs ≡ b ∷ ys → xs ≡ ys
+  tails a b xs ys e = cc
+
+  first_fault : (number : ℕ) (before before' rest rest' : List (List ℕ)) (line line' : List ℕ) (old earlier earlier' : List Weight) (one other : KeepFault)
+      → before ++ line ∷ rest ≡ before' ++ line' ∷ rest' → AddClaims signature number before old earlier → AddClaims signature number before' old earlier' → ¬ SaysNothing line → ¬ SaysNothing line'
+      → IsClaimFault signature earlier line (number + length before) one → IsClaimFault signature earlier' line' (number + length before') other → one ≡ other
+  first_fault number [] [] rest rest' line line' old earlier earlier' one other e a b says says' why why' = grind (arith, one_fault, heads)
+  first_fault number [] (first ∷ before') rest rest' line line' old earlier earlier' one other e a b says says' why why' =
+      absurd (adds_or_fault old b.0 line number (number + length {A = List ℕ} []) one
+      (subst (λ l. AddsLine signature number l old b.0) (sym (heads line first rest (before' ++ line' ∷ rest') e)) b.1) says
+      (subst (λ claims. IsClaimFault signature claims line (number + length {A = List ℕ} []) one) a why))
+  first_fault number (first ∷ before) [] rest rest' line line' old earlier earlier' one other e a b says says' why why' =
+      absurd (adds_or_fault old a.0 line' number (number + length {A = List ℕ} []) other
+      (subst (λ l. AddsLine signature number l old a.0) (heads first line' (before ++ line ∷ rest) rest' e) a.1) says'
+      (subst (λ claims. IsClaimFault signature claims line' (number + length {A = List ℕ} []) other) b why'))
+  first_fault number (first ∷ before) (first' ∷ before') rest rest' line line' old earlier earlier' one other e a b says says' why why' =
+      let same = heads first first' (before ++ line ∷ rest) (before' ++ line' ∷ rest') e in
+      let after = one_line number first' old a.0 b.0 (subst (λ l. AddsLine signature number l old a.0) same a.1) b.1 in
+      let at : number + length (first ∷ before) ≡ number + 1 + length before = omega arith in
+      first_fault (number + 1) before before' rest rest' line line' b.0 earlier earlier' one other (tails first first' (before ++ line ∷ rest) (before' ++ line' ∷ rest') e)
+      (subst (λ claims. AddClaims signature (number + 1) before claims earlier) after a.2) b.2 says says'
+      (subst (λ (n : ℕ). IsClaimFault signature earlier line n one) at why) (subst (λ (n : ℕ). IsClaimFault signature earlier' line' n other) (omega arith) why')
+
+  all_or_fault : (number : ℕ) (before rest lines : List (List ℕ)) (line : List ℕ) (old earlier all : List Weight) (at : ℕ) (fault : KeepFault) → lines ≡ before ++ line ∷ rest → AddClaims signature number before old earlier → AddClaims signature number lines old all → ¬ SaysNothing line
+      → IsClaimFault signature earlier line at fault → ⊥
+  all_or_fault number [] rest (first ∷ lines) line old earlier all at fault e a b says why = grind (arith, adds_or_fault old b.0 line number, heads first line lines rest e, b.0, b.1)
+  all_or_fault number (first ∷ before) rest (first' ∷ lines) line old earlier all at fault e a b says why =
+      let after = one_line number first old a.0 b.0 a.1 (subst (λ l. AddsLine signature number l old b.0) (heads first' first lines (before ++ line ∷ rest) e) b.1) in
+      all_or_fault (number + 1) before rest lines line b.0 earlier all at fault (tails first' first lines (before ++ line ∷ rest) e)
+      (subst (λ claims. AddClaims signature (number + 1) before claims earlier) after a.2) b.2 says why
+  all_or_fault number before rest lines line old earlier all at fault e a b says why = absurd cc
+
+module _ (program : Parts) (differ : AllDiffer (map (λ decl. decl.name) program.signature.preds)) (bytes : List ℕ) where
+  pub one_list : (one other : List Weight) → HasClaims program bytes one → HasClaims program bytes other → one ≡ other
+  one_list one other a b = one_adding program.signature differ 1 (claim_lines bytes) [] one other a b
+
+  pub one_first : (one other : KeepFault) → HasFault program bytes one → HasFault program bytes other → one ≡ other
+  one_first one other a b =
+      first_fault program.signature differ 1 a.before b.before a.rest b.rest a.line b.line [] a.earlier b.earlier one other (sym a.cut ∙ b.cut) a.add b.add a.says b.says
+      (subst (λ (n : ℕ). IsClaimFault program.signature a.earlier a.line n one) (turn (length a.before)) a.why) (subst (λ (n : ℕ). IsClaimFault program.signature b.earlier b.line n other) (turn (length b.before)) b.why)
+    where
+      turn : (n : ℕ) → n + 1 ≡ 1 + n
+      turn n = omega arith
+
+  pub not_both : (weights : List Weight) (fault : KeepFault) → HasClaims program bytes weights → HasFault program bytes fault → ⊥
+  not_both weights fault a b = all_or_fault program.signature differ 1 b.before b.rest (claim_lines bytes) b.line [] b.earlier weights (length b.before + 1) fault b.cut b.add a b.says b.why

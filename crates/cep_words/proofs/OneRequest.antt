@@ -1,17 +1,245 @@
--- Words ask for one thing at most.
-use Rattle.std.proofs.Common.{◌≡◌, ⊎_elim, ℕ, Option, None, Some, cond, ◌==◌, List, [], ◌∷◌, ◌++◌, ◌+◌, ◌*◌, ◌^◌, ◌<◌, ◌≤◌, map, refl, sym, ap, subst, ◌∙◌, arith, Contains}
-use Rattle.std.specs.Prelude.{codes, decimal}
-use Rattle.std.proofs.lemmas.Fmt.{decimal_injective}
-use Rattle.std.proofs.lemmas.List.Sorted.{IsPermutation-sym, Contains-permutation}
-use Rattle.std.proofs.lemmas.List.{append_cancel_left}
+-- Words give options one after another, and ask for one thing at most.
+use Rattle.std.proofs.Common.{◌≡◌, ◌≢◌, ℕ, ◌+◌, ◌*◌, ◌<◌, ◌≤◌, cond, ◌==◌, Option, None, Some, List, [], ◌∷◌, ◌++◌, ◌-◌, length, map, take, drop, get_or, refl, sym, ap, subst, ◌∙◌, arith, append_assoc, Contains, ⊎_elim, ◌^◌}
+use Rattle.std.specs.Prelude.{IsSome, MatchOption, codes, decimal}
 use Rattle.std.specs.List.{AllByRecursion}
-use Rattle.cep_base.proofs.Elements.{contains_none, contains_cases, contains_either, contains_left, contains_right, contains_first, contains_map, map_cases, all_at}
+use Rattle.std.specs.List.Sorted.{IsPermutation}
+use Rattle.std.proofs.lemmas.List.Recursion.{is_sum_by}
+use Rattle.std.proofs.lemmas.List.Sorted.{IsPermutation-refl, IsPermutation-sym, IsPermutation-trans, IsPermutation-cons, IsPermutation-middle, IsPermutation-to_front, IsPermutation-map, IsPermutation-append_right, Contains-permutation, sum_by-IsPermutation}
+use Rattle.std.proofs.lemmas.List.{map-append, take_more, take-append-drop, append_cancel_left}
+use Rattle.std.proofs.Math.Seq.{take-length}
+use Rattle.cep_base.proofs.Elements.{contains_right, contains_first, map_cases, all_at, all_of, contains_none, contains_cases, contains_either, contains_left, contains_map}
 use Rattle.cep_words.specs.declared.run_option.RunOption.{RunOption}
 use Rattle.cep_words.specs.declared.run_option.RunOption.TheVariants.{Seed, Height, Turns, Players}
 use Rattle.cep_words.specs.declared.options.Options.{Options}
 use Rattle.cep_words.specs.declared.request.Task.{Task}
 use Rattle.cep_words.specs.declared.request.Task.TheVariants.{Check, Renew, Cause, Again, Weigh}
-use Rattle.cep_words.specs.Words.{option_text, IsInBounds, asked_if, all_asked, Give, play_word, task_word, options_of, Request, Play, Examine, Dead, World, AskFor}
+use Rattle.cep_words.specs.Words.{option_text, IsInBounds, asked_if, all_asked, AreWithin, Give, task_word, options_of, Play, Examine, Dead, World, AskFor, HaveNoForm, play_word, Request}
+use Rattle.cep_words.specs.Adding.{of_its_kind, IsThere, AddsOne}
+use Rattle.std.proofs.lemmas.Fmt.{decimal_injective}
+
+-- Words that give options, one after another.
+
+-- How many words begin as those of a kind do
+
+initial : RunOption → ℕ
+initial (Seed seed) = 115
+initial (Height levels) = 104
+initial (Turns turns) = 116
+initial (Players players) = 112
+
+abbrev begins : ℕ → List ℕ → ℕ
+begins first [] = 0
+begins first (byte ∷ rest) = cond (byte == first) 1 0
+
+abbrev times : ℕ → List (List ℕ) → ℕ
+times first [] = 0
+times first (word ∷ words) = begins first word + times first words
+
+times-permuted : (first : ℕ) (words others : List (List ℕ)) → IsPermutation words others → times first others ≡ times first words
+times-permuted first words others same =
+    let is = is_sum_by (times first) (begins first) refl (λ word words. refl) in
+    is others ∙ sum_by-IsPermutation (begins first) words others same ∙ sym (is words)
+
+times-both : (first : ℕ) (words others : List (List ℕ)) → times first (words ++ others) ≡ times first words + times first others
+times-both first [] others = omega arith
+times-both first (word ∷ words) others = let later = times-both first words others in omega (arith, later)
+
+times-asked : (first : ℕ) (here later : List RunOption) → times first (map option_text (here ++ later)) ≡ times first (map option_text here) + times first (map option_text later)
+times-asked first here later = ap (times first) (map-append option_text here later) ∙ times-both first (map option_text here) (map option_text later)
+
+abbrev present : Option ℕ → ℕ
+present None = 0
+present (Some n) = 1
+
+-- the words of one kind: each begins so, or none
+times-kind : (first count : ℕ) (kind : ℕ → RunOption) (o : Option ℕ) → ((n : ℕ) → begins first (option_text (kind n)) ≡ count) → times first (map option_text (asked_if kind o)) ≡ count * present o
+times-kind first count kind None each = omega arith
+times-kind first count kind (Some n) each = omega (arith, each n)
+
+-- those of all kinds
+times-asked_all : (first : ℕ) (options : Options) → times first (map option_text (all_asked options)) ≡ cond (115 == first) 1 0 * present options.seed + (cond (104 == first) 1 0 * present options.height + (cond (116 == first) 1 0 * present options.turns + cond (112 == first) 1 0 * present options.players))
+times-asked_all first options =
+    rw (
+      times-asked,
+      times-asked,
+      times-asked,
+      times-kind first (cond (115 == first) 1 0) Seed options.seed (λ n. refl),
+      times-kind first (cond (104 == first) 1 0) Height options.height (λ n. refl),
+      times-kind first (cond (116 == first) 1 0) Turns options.turns (λ n. refl),
+      times-kind first (cond (112 == first) 1 0) Players options.players (λ n. refl),
+    )
+
+-- as many words begin as an option's does as ask what is of its kind
+asked_once : (option : RunOption) (options : Options) → times (initial option) (map option_text (all_asked options)) ≡ present (of_its_kind options option)
+unfolding initial
+asked_once (Seed n) options = omega (arith, times-asked_all 115 options)
+asked_once (Height n) options = omega (arith, times-asked_all 104 options)
+asked_once (Turns n) options = omega (arith, times-asked_all 116 options)
+asked_once (Players n) options = omega (arith, times-asked_all 112 options)
+
+begins_so : (option : RunOption) → begins (initial option) (option_text option) ≡ 1
+unfolding initial
+begins_so (Seed n) = refl
+begins_so (Height n) = refl
+begins_so (Turns n) = refl
+begins_so (Players n) = refl
+
+at_most_one : (o : Option ℕ) → present o ≤ 1
+at_most_one None = omega arith
+at_most_one (Some n) = omega arith
+
+some_present : (o : Option ℕ) → IsSome o → present o ≡ 1
+some_present None some = cc
+some_present (Some n) some = refl
+
+-- Words that were read, and one more
+
+-- the options so far are those of the words that were read
+pub record AreRead (words : List (List ℕ)) (options : Options) : Type 0 where
+  pub within : AreWithin options
+  pub given : IsPermutation (map option_text (all_asked options)) words
+
+pub none_read : AreRead [] (record { seed = None; height = None; turns = None; players = None })
+none_read = record { within = tt; given = IsPermutation-refl [] }
+
+abbrev parts : Option ℕ → Option ℕ → Option ℕ → Option ℕ → List RunOption
+parts seed height turns players = asked_if Seed seed ++ (asked_if Height height ++ (asked_if Turns turns ++ asked_if Players players))
+
+-- one more after others is one more before them
+behind : (before asked : List RunOption) (option : RunOption) (later : List RunOption) → IsPermutation asked (option ∷ later) → IsPermutation (before ++ asked) (option ∷ before ++ later)
+behind before asked option later same =
+    IsPermutation-trans (before ++ asked) (before ++ option ∷ later) (option ∷ before ++ later) (IsPermutation-append_right before asked (option ∷ later) same) (IsPermutation-middle before option later)
+
+-- options with one more ask one thing more
+asks_one_more : (option : RunOption) (seed height turns players : Option ℕ) (after : Options) → AddsOne (record { seed = seed; height = height; turns = turns; players = players }) option after
+    → IsPermutation (all_asked after) (option ∷ parts seed height turns players)
+asks_one_more (Seed n) seed height turns players after (none, is) = rw (is, none) (IsPermutation-refl (Seed n ∷ parts None height turns players))
+asks_one_more (Height n) seed height turns players after (none, is) =
+    rw (is, none) (behind (asked_if Seed seed) (parts None (Some n) turns players) (Height n) (parts None None turns players) (IsPermutation-refl _))
+asks_one_more (Turns n) seed height turns players after (none, is) =
+    rw (is, none) (behind (asked_if Seed seed) (parts None height (Some n) players) (Turns n) (parts None height None players)
+    (behind (asked_if Height height) (parts None None (Some n) players) (Turns n) (parts None None None players) (IsPermutation-refl _)))
+asks_one_more (Players n) seed height turns players after (none, is) =
+    rw (is, none) (behind (asked_if Seed seed) (parts None height turns (Some n)) (Players n) (parts None height turns None)
+    (behind (asked_if Height height) (parts None None turns (Some n)) (Players n) (parts None None turns None)
+    (behind (asked_if Turns turns) (parts None None None (Some n)) (Players n) (parts None None None None) (IsPermutation-refl _))))
+
+all_permuted : (xs ys : List RunOption) → IsPermutation xs ys → AllByRecursion IsInBounds ys → AllByRecursion IsInBounds xs
+all_permuted xs ys same all = all_of IsInBounds xs (λ x there. all_at IsInBounds ys x all (Contains-permutation xs ys x same there))
+
+pub one_more_read : (words : List (List ℕ)) (word : List ℕ) (options : Options) (option : RunOption) (after : Options) → AreRead words options → IsInBounds option → word ≡ option_text option → AddsOne options option after → AreRead (words ++ word ∷ []) after
+one_more_read words word options option after read bounds is adds =
+    let asks = asks_one_more option options.seed options.height options.turns options.players after adds in
+    let texts = IsPermutation-map option_text (all_asked after) (option ∷ all_asked options) asks in
+    let moved = IsPermutation-trans _ (option_text option ∷ map option_text (all_asked options)) (option_text option ∷ words) texts (IsPermutation-cons (option_text option) (map option_text (all_asked options)) words read.given) in
+    let last = IsPermutation-trans _ (option_text option ∷ words) (words ++ option_text option ∷ []) moved (IsPermutation-sym (words ++ option_text option ∷ []) (option_text option ∷ words) (IsPermutation-to_front words (option_text option))) in
+    record {
+      within = all_permuted (all_asked after) (option ∷ all_asked options) asks (bounds, read.within);
+      given = subst (λ (w : List ℕ). IsPermutation (map option_text (all_asked after)) (words ++ w ∷ [])) (sym is) last;
+    }
+
+-- Words that give no options
+
+-- a word among them asks nothing
+pub one_unread : (words : List (List ℕ)) (word : List ℕ) → Contains words word → ((option : RunOption) → IsInBounds option → word ≡ option_text option → ⊥) → (options : Options) → ¬ (Give words options)
+one_unread words word there unread options give =
+    let from = map_cases option_text (all_asked options) word (Contains-permutation words (map option_text (all_asked options)) word (IsPermutation-sym (map option_text (all_asked options)) words give.1) there) in
+    unread from.from (all_at IsInBounds (all_asked options) from.from give.0 from.there) (sym from.same)
+
+-- a kind is asked twice
+pub one_twice : (words more : List (List ℕ)) (word : List ℕ) (so_far : Options) (option : RunOption) → AreRead words so_far → word ≡ option_text option → IsThere so_far option → (options : Options) → ¬ (Give (words ++ word ∷ more) options)
+one_twice words more word so_far option read is there options give =
+    let first = initial option in
+    let whole = times-permuted first (map option_text (all_asked options)) (words ++ word ∷ more) give.1 in
+    let asked = asked_once option options in
+    let once = at_most_one (of_its_kind options option) in
+    let before = times-permuted first (map option_text (all_asked so_far)) words read.given in
+    let asked' = asked_once option so_far in
+    let some = some_present (of_its_kind so_far option) there in
+    let here = ap (begins first) is ∙ begins_so option in
+    let both = times-both first words (word ∷ more) in
+    omega (arith, whole, asked, once, before, asked', some, here, both)
+
+-- Words at a place among others
+
+module _ {A B : Type 0} (f : A → B) (xs : List A) (i : ℕ) (x : A) (within : i < length xs) (here : x ≡ get_or xs i x) where
+  -- those up to it are those before it, and it
+  pub up_to : map f (take (i + 1) xs) ≡ map f (take i xs) ++ f x ∷ []
+  up_to = ap (map f) (take_more xs i x within) ∙ map-append f (take i xs) (get_or xs i x ∷ []) ∙ ap (λ y. map f (take i xs) ++ f y ∷ []) (sym here)
+
+  -- all are those before it, it, and those after
+  pub around : map f xs ≡ map f (take i xs) ++ f x ∷ map f (drop (i + 1) xs)
+  around =
+      ap (map f) (sym (take-append-drop (i + 1) xs)) ∙ map-append f (take (i + 1) xs) (drop (i + 1) xs) ∙ ap (λ ys. ys ++ map f (drop (i + 1) xs)) up_to
+      ∙ append_assoc (map f (take i xs)) (f x ∷ []) (map f (drop (i + 1) xs))
+
+  pub is_among : Contains (map f xs) (f x)
+  is_among = subst (λ ys. Contains ys (f x)) (sym around) (contains_right (map f (take i xs)) (f x ∷ map f (drop (i + 1) xs)) (f x) (contains_first (f x) (map f (drop (i + 1) xs))))
+
+-- where there is none, what holds then holds
+pub none_matches : {A : Type 0} (o : Option A) (P : Type 0) (Q : A → Type 0) → o ≡ None → P → MatchOption o P Q
+none_matches o P Q none holds = subst (λ found. MatchOption found P Q) (sym none) holds
+
+-- a slice that begins with two items
+pub two_items : {X : Type 0} (items : List X) (one other : X) → 2 ≤ length items → one ≡ get_or items 0 one → other ≡ get_or items 1 other → items ≡ one ∷ other ∷ take (length items - 2) (drop 2 items)
+two_items [] one other least e f = absurd (omega arith)
+two_items (a ∷ []) one other least e f = absurd (omega arith)
+two_items (a ∷ b ∷ more) one other least e f =
+    let rest : take (length (a ∷ b ∷ more) - 2) more ≡ more = ap (λ n. take n more) (let h : length (a ∷ b ∷ more) - 2 ≡ length more = omega arith in h) ∙ take-length more in
+    cc
+
+-- what is said of none may be said less strongly
+pub none_weaker : {A : Type 0} (o : Option A) (P P' : Type 0) (Q : A → Type 0) → (P → P') → MatchOption o P Q → MatchOption o P' Q
+none_weaker None P P' Q less holds = less holds
+none_weaker (Some x) P P' Q less holds = holds
+
+-- words that ask for no task in three words or four examine nothing
+unexamined : (words : List (List ℕ)) → ((task : Task) (file second : List ℕ) → words ≢ task_word task ∷ file ∷ second ∷ []) → ((seed : ℕ) (file second : List ℕ) → ¬ (AskFor words (Examine (Again (Some seed)) file second)))
+    → (task : Task) (file second : List ℕ) → ¬ (AskFor words (Examine task file second))
+unexamined words plain seeded Check file second ask = plain Check file second ask.1
+unexamined words plain seeded Renew file second ask = plain Renew file second ask.1
+unexamined words plain seeded Cause file second ask = plain Cause file second ask.1
+unexamined words plain seeded (Again None) file second ask = plain (Again None) file second ask.1
+unexamined words plain seeded (Again (Some seed)) file second ask = seeded seed file second ask
+unexamined words plain seeded Weigh file second ask = plain Weigh file second ask.1
+
+-- words that ask for none of these are malformed
+pub no_form : (words : List (List ℕ)) → ((file : List ℕ) (options : Options) → ¬ (AskFor words (Play file options))) → ((task : Task) (file second : List ℕ) → words ≢ task_word task ∷ file ∷ second ∷ []) → ((seed : ℕ) (file second : List ℕ) → ¬ (AskFor words (Examine (Again (Some seed)) file second)))
+    → ((file : List ℕ) → ¬ (AskFor words (Dead file))) → ((rooms : ℕ) (options : Options) → ¬ (AskFor words (World rooms options))) → HaveNoForm words
+no_form words unplayed plain seeded unreported unrun (Play file options) ask = unplayed file options ask
+no_form words unplayed plain seeded unreported unrun (Examine task file second) ask = unexamined words plain seeded task file second ask
+no_form words unplayed plain seeded unreported unrun (Dead file) ask = unreported file ask
+no_form words unplayed plain seeded unreported unrun (World rooms options) ask = unrun rooms options ask
+
+-- an option that is alone after a task's files
+pub no_options : (task : Task) (words : List (List ℕ)) (file second : List ℕ) → options_of task ≡ [] → words ≡ task_word task ∷ file ∷ second ∷ [] → AskFor words (Examine task file second)
+no_options task words file second none is = (subst (AllByRecursion IsInBounds) (sym none) tt, is ∙ ap (λ options. task_word task ∷ file ∷ second ∷ map option_text options) (sym none))
+
+-- three items
+pub three_items : {X : Type 0} (items : List X) (one other third : X) → length items ≡ 3 → one ≡ get_or items 0 one → other ≡ get_or items 1 other → third ≡ get_or items 2 third → items ≡ one ∷ other ∷ third ∷ []
+three_items [] one other third size e f g = absurd (omega (arith, size))
+three_items (a ∷ []) one other third size e f g = absurd (omega (arith, size))
+three_items (a ∷ b ∷ []) one other third size e f g = absurd (omega (arith, size))
+three_items (a ∷ b ∷ c ∷ []) one other third size e f g = cc
+three_items (a ∷ b ∷ c ∷ d ∷ more) one other third size e f g = absurd (omega (size, arith))
+
+-- and two
+pub only_two : {X : Type 0} (items : List X) (one other : X) → length items ≡ 2 → one ≡ get_or items 0 one → other ≡ get_or items 1 other → items ≡ one ∷ other ∷ []
+only_two [] one other size e f = absurd (omega (arith, size))
+only_two (a ∷ []) one other size e f = absurd (omega (arith, size))
+only_two (a ∷ b ∷ []) one other size e f = cc
+only_two (a ∷ b ∷ c ∷ more) one other size e f = absurd (omega (arith, size))
+
+-- and four
+pub four_items : {X : Type 0} (items : List X) (one other third last : X) → length items ≡ 4 → one ≡ get_or items 0 one → other ≡ get_or items 1 other → third ≡ get_or items 2 third → last ≡ get_or items 3 last → items ≡ one ∷ other ∷ third ∷ last ∷ []
+four_items [] one other third last size e f g h = absurd (omega (arith, size))
+four_items (a ∷ []) one other third last size e f g h = absurd (omega (arith, size))
+four_items (a ∷ b ∷ []) one other third last size e f g h = absurd (omega (arith, size))
+four_items (a ∷ b ∷ c ∷ []) one other third last size e f g h = absurd (omega (arith, size))
+four_items (a ∷ b ∷ c ∷ d ∷ []) one other third last size e f g h = cc
+four_items (a ∷ b ∷ c ∷ d ∷ e' ∷ more) one other third last size e f g h = absurd (omega (size, arith))
+
+-- Words ask for one thing at most.
 
 abbrev head : List ℕ → ℕ
 head [] = 0

@@ -1,2 +1,1 @@
-pub mod Repeats
 pub mod Separators

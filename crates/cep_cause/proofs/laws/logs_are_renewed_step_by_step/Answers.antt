@@ -1,7 +1,6 @@
 use Rattle.std.proofs.Common.{[], refl}
 use Rattle.cep_lines.specs.Lines.{header}
-use Rattle.cep_cause.proofs.RenewedSteps.{legal_put, renewing_begins, one_more_renewed, renewing_too_long, renewing_ends}
-use Rattle.cep_cause.proofs.RenewedLogs.{whole_written, front_too_long, short_enough, too_long}
+use Rattle.cep_cause.proofs.Renewed.{legal_put, renewing_begins, one_more_renewed, renewing_too_long, renewing_ends, whole_written, front_too_long, short_enough, too_long}
 use Rattle.cep_cause.proofs.laws.logs_are_renewed_step_by_step.Goals as goal
 
 pub returns : goal.returns

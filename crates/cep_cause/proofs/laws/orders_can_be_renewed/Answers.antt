@@ -1,4 +1,4 @@
-use Rattle.cep_cause.proofs.InOrder.{legal_in_order, renewed_in_order, written_is_one, renewal_as_written}
+use Rattle.cep_cause.proofs.WrittenOrder.{legal_in_order, renewed_in_order, written_is_one, renewal_as_written}
 use Rattle.cep_cause.proofs.laws.orders_can_be_renewed.Goals as goal
 
 pub returns-clause-legal : goal.returns-clause-legal

@@ -1,4 +1,4 @@
-use Rattle.cep_cause.proofs.OneAnswer.{one_answer}
+use Rattle.cep_cause.proofs.WrittenOrder.{one_answer}
 use Rattle.cep_cause.proofs.laws.orders_come_to_one_answer.Goals as goal
 
 pub returns : goal.returns

@@ -1,4 +1,4 @@
-use Rattle.cep_cause.proofs.Law.{run_of, legal_in_order}
+use Rattle.cep_cause.proofs.Walked.{run_of, legal_in_order}
 use Rattle.cep_cause.proofs.laws.reorderings_are_legal.Goals as goal
 
 pub returns : goal.returns

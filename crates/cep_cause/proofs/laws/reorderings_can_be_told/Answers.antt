@@ -1,4 +1,4 @@
-use Rattle.cep_cause.proofs.RenewedInOrder.{renewal_in_order}
+use Rattle.cep_cause.proofs.Renewed.{renewal_in_order}
 use Rattle.cep_cause.proofs.laws.reorderings_can_be_told.Goals as goal
 
 pub returns : goal.returns

@@ -1,4 +1,4 @@
-use Rattle.cep_cause.proofs.Outcomes.{legal_or_unfit, one_unfit}
+use Rattle.cep_cause.proofs.Central.{legal_or_unfit, one_unfit}
 use Rattle.cep_cause.proofs.laws.steps_come_to_one_outcome.Goals as goal
 
 pub returns-clause-not_both : goal.returns-clause-not_both

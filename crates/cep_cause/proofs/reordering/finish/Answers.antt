@@ -1,4 +1,4 @@
-use Rattle.cep_cause.proofs.Writing.{not_long, comes_to_text, comes_too_long}
+use Rattle.cep_cause.proofs.WrittenOrder.{not_long, comes_to_text, comes_too_long}
 use Rattle.cep_cause.proofs.reordering.finish.Goals as goal
 
 pub returns-then-is_long : goal.returns-then-is_long

@@ -1,7 +1,7 @@
 use Rattle.cep_cause.specs.Reorderings.{step_places}
 use Rattle.cep_cause.specs.Walking.{AreDueAt}
 use Rattle.cep_cause.proofs.Walked.{IsGiven, IsWalkingAt}
-use Rattle.cep_cause.proofs.Writing.{IsTelling}
+use Rattle.cep_cause.proofs.WrittenOrder.{IsTelling}
 use Rattle.cep_cause.proofs.walking.walk.Given as goal
 
 abbrev pub invariant-loop-i : goal.invariant-loop-i

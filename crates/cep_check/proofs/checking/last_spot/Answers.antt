@@ -2,8 +2,7 @@ use Rattle.std.proofs.Common.{ℕ, ◌≤◌, length, drop, sym, subst, arith}
 use Rattle.cep_base.proofs.Lists.{holds_at}
 use Rattle.cep_log.specs.Legal.{IsStepOf}
 use Rattle.cep_check.specs.Causes.{IsRefusedFrom}
-use Rattle.cep_check.proofs.Steps.{legal_next, refused_next, refused_here}
-use Rattle.cep_check.proofs.Verdicts.{none_left}
+use Rattle.cep_check.proofs.Verdicts.{legal_next, refused_next, refused_here, none_left}
 use Rattle.cep_check.proofs.checking.last_spot.Goals as goal
 
 pub loop-i-init : goal.loop-i-init

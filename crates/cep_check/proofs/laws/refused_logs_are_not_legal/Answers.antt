@@ -1,4 +1,4 @@
-use Rattle.cep_check.proofs.Refusing.{refused_clash}
+use Rattle.cep_check.proofs.Differences.{refused_clash}
 use Rattle.cep_check.proofs.laws.refused_logs_are_not_legal.Goals as goal
 
 pub returns : goal.returns

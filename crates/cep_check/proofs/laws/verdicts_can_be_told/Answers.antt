@@ -1,4 +1,4 @@
-use Rattle.cep_check.proofs.Tellable.{verdict_told}
+use Rattle.cep_check.proofs.Verdicts.{verdict_told}
 use Rattle.cep_check.proofs.laws.verdicts_can_be_told.Goals as goal
 
 pub returns : goal.returns

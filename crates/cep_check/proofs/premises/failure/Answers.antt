@@ -2,7 +2,7 @@ use Rattle.std.proofs.Common.{refl}
 use Rattle.cep_term.specs.Tree.{atom_of}
 use Rattle.cep_rule.specs.Instances.{full_instance}
 use Rattle.cep_rule.specs.Derivations.{proof_of}
-use Rattle.cep_check.proofs.Steps.{only_fit}
+use Rattle.cep_check.proofs.Verdicts.{only_fit}
 use Rattle.cep_check.proofs.premises.failure.Goals as goal
 
 pub returns-in-None : goal.returns-in-None

@@ -3,7 +3,7 @@ use Rattle.std.proofs.lemmas.List.{length-map}
 use Rattle.cep_term.specs.Tree.{atom_of}
 use Rattle.cep_rule.specs.Instances.{full_instance, full_instances}
 use Rattle.cep_rule.specs.Derivations.{proof_of}
-use Rattle.cep_check.proofs.Steps.{proofs_more, proofs_all, proof_cause, instance_at}
+use Rattle.cep_check.proofs.Verdicts.{proofs_more, proofs_all, proof_cause, instance_at}
 use Rattle.cep_check.proofs.premises.first_failure.Goals as goal
 
 pub loop-i-preserved : goal.loop-i-preserved

@@ -2,7 +2,7 @@ use Rattle.std.proofs.Common.{◌≡◌, rules}
 use Rattle.std.specs.Prelude.{slice_get, Some}
 use Rattle.std.proofs.lemmas.Result.{IfOk-weaker}
 use Rattle.cep_check.proofs.Options.{of_either}
-use Rattle.cep_check.proofs.Steps.{ready}
+use Rattle.cep_check.proofs.Verdicts.{ready}
 use Rattle.cep_check.proofs.step.advance.Goals as goal
 
 pub cause_before-requires-clause-ready : goal.cause_before-requires-clause-ready

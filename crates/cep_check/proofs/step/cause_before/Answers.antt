@@ -3,8 +3,7 @@ use Rattle.std.proofs.lemmas.Result.{IfOk-weaker}
 use Rattle.cep_rule.specs.Binding.{needed_of}
 use Rattle.cep_check.specs.Causes.{CanTake, IsProvedStep}
 use Rattle.cep_check.proofs.Options.{in_either}
-use Rattle.cep_check.proofs.Doing.{in_range_all, ground_all}
-use Rattle.cep_check.proofs.Steps.{of_stage, of_no_stage, lack_cause, failure_cause, quiet_cause}
+use Rattle.cep_check.proofs.Verdicts.{in_range_all, ground_all, of_stage, of_no_stage, lack_cause, failure_cause, quiet_cause}
 use Rattle.cep_check.proofs.step.cause_before.Goals as goal
 
 pub not_contained-requires-clause-in_range : goal.not_contained-requires-clause-in_range

@@ -1,4 +1,4 @@
-use Rattle.cep_check.proofs.Doing.{mid_cause}
+use Rattle.cep_check.proofs.Verdicts.{mid_cause}
 use Rattle.cep_check.proofs.step.change.Goals as goal
 
 pub mid_cause-requires : goal.mid_cause-requires

@@ -1,4 +1,4 @@
-use Rattle.cep_check.proofs.Doing.{stage_cause}
+use Rattle.cep_check.proofs.Verdicts.{stage_cause}
 use Rattle.cep_check.proofs.step.go_on.Goals as goal
 
 pub returns-in-Some : goal.returns-in-Some

@@ -1,5 +1,4 @@
-use Rattle.cep_complete.proofs.Applying.{found_apply}
-use Rattle.cep_complete.proofs.Values.{met_typed}
+use Rattle.cep_complete.proofs.Applying.{found_apply, met_typed}
 use Rattle.cep_complete.proofs.laws.found_values_are_typed.Goals as goal
 
 pub returns-clause-met : goal.returns-clause-met

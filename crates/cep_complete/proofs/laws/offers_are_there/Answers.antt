@@ -1,5 +1,4 @@
-use Rattle.cep_complete.proofs.Finding.{FindingLaws}
-use Rattle.cep_complete.proofs.OffersThere.{offers_there}
+use Rattle.cep_complete.proofs.OffersThere.{FindingLaws, offers_there}
 use Rattle.cep_complete.proofs.laws.offers_are_there.Goals as goal
 
 pub returns : goal.returns

@@ -1,4 +1,4 @@
-use Rattle.cep_faults.proofs.Joined.{all_named}
+use Rattle.cep_faults.proofs.Complete.{all_named}
 use Rattle.cep_faults.proofs.checking.name_fault.Goals as goal
 
 pub returns : goal.returns

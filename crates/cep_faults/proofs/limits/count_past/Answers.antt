@@ -4,8 +4,7 @@ use Rattle.cep_refusal.specs.declared.fault.Fault.{Fault}
 use Rattle.cep_source.specs.Items.{PredItem, ConItem, RuleItem, ClauseItem, preds_of, cons_of, rules_of, clauses_of}
 use Rattle.cep_source.specs.Kept.{pred_item, con_item, rule_item, clause_item}
 use Rattle.cep_faults.specs.Faults.{past_most}
-use Rattle.cep_faults.proofs.Firsts.{followed, mapped_by}
-use Rattle.cep_faults.proofs.Nths.{past_given}
+use Rattle.cep_faults.proofs.Firsts.{followed, mapped_by, past_given}
 use Rattle.cep_faults.proofs.limits.count_past.Goals as goal
 
 pub returns : goal.returns

@@ -3,8 +3,7 @@ use Rattle.cep_base.specs.declared.limits.TheConstants.{MOST_GOALS}
 use Rattle.cep_parse.specs.declared.raw.RawAtom.{RawAtom}
 use Rattle.cep_refusal.specs.First.{first_in}
 use Rattle.cep_faults.specs.Faults.{past}
-use Rattle.cep_faults.proofs.Firsts.{mapped_by, mapped_twice}
-use Rattle.cep_faults.proofs.Nths.{got_is}
+use Rattle.cep_faults.proofs.Firsts.{mapped_by, mapped_twice, got_is}
 use Rattle.cep_faults.proofs.limits.goal_past.Goals as goal
 
 pub returns : goal.returns

@@ -1,7 +1,7 @@
 use Rattle.std.proofs.Common.{sym, ◌∙◌, arith}
 use Rattle.std.proofs.lemmas.Grind.{common_steps}
 use Rattle.cep_parse.specs.declared.raw.RawKind.TheVariants.{Blank}
-use Rattle.cep_faults.proofs.Pending.{too_deep}
+use Rattle.cep_faults.proofs.Firsts.{too_deep}
 use Rattle.cep_faults.proofs.limits.is_shallow.Goals as goal
 
 pub returns-then-level-gt-MOST_DEPTH : goal.returns-then-level-gt-MOST_DEPTH

@@ -1,5 +1,5 @@
 use Rattle.std.proofs.Common.{refl, arith}
-use Rattle.cep_faults.proofs.Pending.{next_again, next_other}
+use Rattle.cep_faults.proofs.Firsts.{next_again, next_other}
 use Rattle.cep_faults.proofs.limits.next_level.Goals as goal
 
 pub returns-then-run-gt0-clause-some : goal.returns-then-run-gt0-clause-some

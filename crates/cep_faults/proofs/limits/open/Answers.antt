@@ -1,4 +1,4 @@
-use Rattle.cep_faults.proofs.Pending.{opened}
+use Rattle.cep_faults.proofs.Firsts.{opened}
 use Rattle.cep_faults.proofs.limits.open.Goals as goal
 
 pub returns-in_ok-push : goal.returns-in_ok-push

@@ -3,7 +3,7 @@ use Rattle.cep_parse.specs.declared.raw.RawAtom.{RawAtom}
 use Rattle.cep_parse.specs.Raw.{atoms_in}
 use Rattle.cep_refusal.specs.First.{first_in}
 use Rattle.cep_faults.specs.Faults.{is_premise, past_most}
-use Rattle.cep_faults.proofs.Nths.{past_found, past_none, filter-flat_map, is_counted, kept_one}
+use Rattle.cep_faults.proofs.Firsts.{past_found, past_none, filter-flat_map, is_counted, kept_one}
 use Rattle.cep_faults.proofs.limits.premise_past.Goals as goal
 
 pub returns-then-before-most : goal.returns-then-before-most

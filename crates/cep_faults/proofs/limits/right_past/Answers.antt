@@ -1,7 +1,7 @@
 use Rattle.cep_base.specs.declared.limits.TheConstants.{MOST_RIGHT}
 use Rattle.cep_parse.specs.declared.raw.RawAtom.{RawAtom}
 use Rattle.cep_parse.specs.Raw.{atoms_in}
-use Rattle.cep_faults.proofs.Nths.{past_found, past_none}
+use Rattle.cep_faults.proofs.Firsts.{past_found, past_none}
 use Rattle.cep_faults.proofs.limits.right_past.Goals as goal
 
 pub returns-then-before-eq-MOST_RIGHT : goal.returns-then-before-eq-MOST_RIGHT

@@ -6,8 +6,7 @@ use Rattle.cep_refusal.specs.declared.fault.Fault.{Fault}
 use Rattle.cep_refusal.specs.First.{first_in}
 use Rattle.cep_source.specs.Kept.{clause_item}
 use Rattle.cep_faults.specs.Faults.{clause_atom_faults, past_most, variable_faults}
-use Rattle.cep_faults.proofs.Firsts.{followed, noted, all_noted}
-use Rattle.cep_faults.proofs.Nths.{variable_at_most}
+use Rattle.cep_faults.proofs.Firsts.{followed, noted, all_noted, variable_at_most}
 use Rattle.cep_faults.proofs.rules.clause_fault.Goals as goal
 
 pub loop-goal-preserved : goal.loop-goal-preserved

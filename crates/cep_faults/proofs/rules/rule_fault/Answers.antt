@@ -7,8 +7,7 @@ use Rattle.cep_refusal.specs.declared.fault.Fault.{Fault}
 use Rattle.cep_refusal.specs.First.{first_in}
 use Rattle.cep_source.specs.Kept.{rule_item}
 use Rattle.cep_faults.specs.Faults.{elem_faults, premise_faults, right_faults, variable_faults, home_faults}
-use Rattle.cep_faults.proofs.Firsts.{followed}
-use Rattle.cep_faults.proofs.Nths.{variable_at_most}
+use Rattle.cep_faults.proofs.Firsts.{followed, variable_at_most}
 use Rattle.cep_faults.proofs.rules.rule_fault.Goals as goal
 
 pub returns : goal.returns

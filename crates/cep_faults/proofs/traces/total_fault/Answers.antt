@@ -1,7 +1,7 @@
 use Rattle.std.proofs.Common.{List, ℕ, length, ap}
 use Rattle.cep_refusal.specs.declared.reason.Reason.TheVariants.{NoTrace}
 use Rattle.cep_refusal.specs.First.{wrong}
-use Rattle.cep_faults.proofs.TraceFaults.{some_traces, no_traces}
+use Rattle.cep_faults.proofs.Firsts.{some_traces, no_traces}
 use Rattle.cep_faults.proofs.traces.total_fault.Goals as goal
 
 pub returns-in_ok-first-in-Some : goal.returns-in_ok-first-in-Some

@@ -1,5 +1,5 @@
 use Rattle.std.proofs.Common.{◌∙◌}
-use Rattle.cep_faults.proofs.TraceFaults.{two_more, two_all}
+use Rattle.cep_faults.proofs.Firsts.{two_more, two_all}
 use Rattle.cep_faults.proofs.traces.two_fault.Goals as goal
 
 pub loop-trace-preserved : goal.loop-trace-preserved

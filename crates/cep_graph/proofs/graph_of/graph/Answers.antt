@@ -9,7 +9,7 @@ use Rattle.cep_rule.specs.Typing.{AreValues}
 use Rattle.cep_cause.specs.Tokens.{listed_copies}
 use Rattle.cep_graph.specs.Traces.{AreOfStart}
 use Rattle.cep_graph.specs.Trails.{TouchesBy}
-use Rattle.cep_graph.proofs.Graphed.{none_so_far, one_more, all_done, has_rule}
+use Rattle.cep_graph.proofs.OneGraph.{none_so_far, one_more, all_done, has_rule}
 use Rattle.cep_graph.proofs.graph_of.graph.Goals as goal
 
 pub loop-i-init : goal.loop-i-init

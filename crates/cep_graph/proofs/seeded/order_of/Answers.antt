@@ -1,4 +1,4 @@
-use Rattle.cep_graph.proofs.Counted.{few_causes}
+use Rattle.cep_graph.proofs.OneGraph.{few_causes}
 use Rattle.cep_graph.proofs.seeded.order_of.Goals as goal
 
 pub order_by-requires-clause-few : goal.order_by-requires-clause-few

@@ -1,6 +1,6 @@
 use Rattle.std.proofs.Common.{ap, ◌∙◌}
 use Rattle.std.specs.Prelude.{nat_lt, filter}
-use Rattle.cep_graph.proofs.Sorted.{after_increasing, after_counted, after_same}
+use Rattle.cep_graph.proofs.Trailing.{after_increasing, after_counted, after_same}
 use Rattle.cep_graph.proofs.sorting.in_order.Goals as goal
 
 pub returns-clause-increasing : goal.returns-clause-increasing

@@ -3,7 +3,7 @@ use Rattle.std.specs.Prelude.{slice_get}
 use Rattle.std.proofs.lemmas.Option.{slice_get-get_or, slice_get_within}
 use Rattle.cep_term.specs.Tree.{AtomTree, none}
 use Rattle.cep_graph.specs.Queues.{Queues, IsIdOf}
-use Rattle.cep_graph.proofs.Starts.{copies_more}
+use Rattle.cep_graph.proofs.Made.{copies_more}
 use Rattle.cep_graph.proofs.starting.add_copies.Goals as goal
 
 pub add-requires : goal.add-requires

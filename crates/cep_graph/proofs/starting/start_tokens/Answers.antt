@@ -7,7 +7,7 @@ use Rattle.cep_base.proofs.Lists.{holds_at}
 use Rattle.cep_term.specs.Tree.{AtomTree, atom_of}
 use Rattle.cep_term.specs.Multiset.{IsEntry}
 use Rattle.cep_graph.specs.Traces.{AreOfStart}
-use Rattle.cep_graph.proofs.Starts.{starts_met, entry_more}
+use Rattle.cep_graph.proofs.Made.{starts_met, entry_more}
 use Rattle.cep_graph.proofs.starting.start_tokens.Goals as goal
 
 pub id_of-requires : goal.id_of-requires

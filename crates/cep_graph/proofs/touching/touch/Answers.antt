@@ -1,7 +1,6 @@
 use Rattle.std.proofs.Common.{ℕ, List, subst}
 use Rattle.cep_graph.specs.Traces.{TakesFor}
-use Rattle.cep_graph.proofs.Typed.{premises_in_range, premises_ground, right_in_range, right_ground}
-use Rattle.cep_graph.proofs.Trailing.{touch_ends}
+use Rattle.cep_graph.proofs.Trailing.{premises_in_range, premises_ground, right_in_range, right_ground, touch_ends}
 use Rattle.cep_graph.proofs.touching.touch.Goals as goal
 
 pub take-requires-clause-range : goal.take-requires-clause-range

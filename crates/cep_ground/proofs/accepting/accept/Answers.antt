@@ -5,7 +5,7 @@ use Rattle.cep_parse.specs.Files.{IsParsed}
 use Rattle.cep_source.specs.Items.{Source}
 use Rattle.cep_infer.specs.Shapes.{IsSource}
 use Rattle.cep_infer.specs.Resolved.{IsResolved}
-use Rattle.cep_ground.proofs.RefusedDrafts.{refused_draft}
+use Rattle.cep_ground.proofs.Refused.{refused_draft}
 use Rattle.cep_ground.proofs.accepting.accept.Goals as goal
 
 pub returns : goal.returns

@@ -1,5 +1,5 @@
-use Rattle.cep_ground.proofs.Accepted.{Laws, spelled}
-use Rattle.cep_ground.proofs.OneRefusal.{nothing_left}
+use Rattle.cep_ground.proofs.Refused.{Laws, spelled}
+use Rattle.cep_ground.proofs.OneAnswer.{nothing_left}
 use Rattle.cep_ground.proofs.laws.a_text_with_nothing_wrong_is_a_program.Goals as goal
 
 pub returns-clause-right : goal.returns-clause-right

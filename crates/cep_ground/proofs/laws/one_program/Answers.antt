@@ -1,5 +1,5 @@
 use Rattle.cep_parse.specs.Symbols.{symbols_of}
-use Rattle.cep_ground.proofs.OneProgram.{program_once}
+use Rattle.cep_ground.proofs.OneAnswer.{program_once}
 use Rattle.cep_ground.proofs.laws.one_program.Goals as goal
 
 pub returns : goal.returns

@@ -1,4 +1,4 @@
-use Rattle.cep_ground.proofs.OneRefusal as law
+use Rattle.cep_ground.proofs.OneAnswer as law
 use Rattle.cep_ground.proofs.laws.one_refusal.Goals as goal
 
 pub returns : goal.returns

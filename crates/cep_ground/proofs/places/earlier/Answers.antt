@@ -1,8 +1,8 @@
 use Rattle.std.proofs.Common.{subst, sym, ◌++◌}
 use Rattle.cep_ground.specs.Refusals.{StandsBefore}
 use Rattle.cep_ground.specs.Earliest.{IsEarliest}
-use Rattle.cep_ground.proofs.Plain.{yes_of, no_of}
-use Rattle.cep_ground.proofs.EarliestLaws.{earlier_other, earlier_one, one_alone, other_alone}
+use Rattle.cep_ground.proofs.Refused.{yes_of, no_of}
+use Rattle.cep_ground.proofs.EarliestPlaces.{earlier_other, earlier_one, one_alone, other_alone}
 use Rattle.cep_ground.proofs.places.earlier.Goals as goal
 
 pub returns-then-stands_before : goal.returns-then-stands_before

@@ -1,6 +1,6 @@
 use Rattle.std.proofs.Common.{subst, sym, take, ◌∷◌, []}
 use Rattle.cep_ground.specs.Earliest.{IsEarliest}
-use Rattle.cep_ground.proofs.EarliestLaws.{single, take_next}
+use Rattle.cep_ground.proofs.EarliestPlaces.{single, take_next}
 use Rattle.cep_ground.proofs.places.earliest.Goals as goal
 
 pub loop-i-preserved : goal.loop-i-preserved

@@ -1,7 +1,7 @@
 use Rattle.std.proofs.Common.{subst, sym, take}
 use Rattle.std.specs.List.{flat_map}
 use Rattle.cep_ground.specs.Earliest.{IsEarliest}
-use Rattle.cep_ground.proofs.EarliestLaws.{flat_next}
+use Rattle.cep_ground.proofs.EarliestPlaces.{flat_next}
 use Rattle.cep_ground.proofs.places.earliest_of_all.Goals as goal
 
 pub loop-i-preserved : goal.loop-i-preserved

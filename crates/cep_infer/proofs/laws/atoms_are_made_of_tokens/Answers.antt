@@ -1,4 +1,4 @@
-use Rattle.cep_infer.proofs.Filled.{atom_made, filled}
+use Rattle.cep_infer.proofs.RulesInTurn.{atom_made, filled}
 use Rattle.cep_infer.proofs.laws.atoms_are_made_of_tokens.Goals as goal
 
 pub returns : goal.returns

@@ -1,4 +1,4 @@
-use Rattle.cep_infer.proofs.GroundStates.{state_written, atom_closed, atom_ground}
+use Rattle.cep_infer.proofs.RulesInTurn.{state_written, atom_closed, atom_ground}
 use Rattle.cep_infer.proofs.laws.start_atoms_are_ground.Goals as goal
 
 pub returns-clause-written : goal.returns-clause-written

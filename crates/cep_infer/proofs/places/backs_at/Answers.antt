@@ -5,7 +5,7 @@ use Rattle.cep_base.specs.Kinds.{is_backward}
 use Rattle.cep_parse.specs.declared.raw.RawAtom.{RawAtom}
 use Rattle.cep_parse.specs.Raw.{atoms_in}
 use Rattle.cep_source.specs.Spaces.{kind_of}
-use Rattle.cep_infer.proofs.Unbound.{kept_more, one_kept}
+use Rattle.cep_infer.proofs.RulesInTurn.{kept_more, one_kept}
 use Rattle.cep_infer.proofs.places.backs_at.Goals as goal
 use Rattle.cep_infer.proofs.places.backs_at.Goals.{then-is_some_and+in_ok-push, else-is_some_and}
 

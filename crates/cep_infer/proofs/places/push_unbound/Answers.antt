@@ -2,7 +2,7 @@ use Rattle.std.proofs.Common.{◌≡◌, false, not, sym, append-nil, rules, of_
 use Rattle.std.specs.Prelude.{MatchOption}
 use Rattle.cep_source.specs.Variables.{Occurrence}
 use Rattle.cep_base.specs.FirstNames.{has_name}
-use Rattle.cep_infer.proofs.Unbound.{node_passes, node_pushed, node_counted}
+use Rattle.cep_infer.proofs.RulesInTurn.{node_passes, node_pushed, node_counted}
 use Rattle.cep_infer.proofs.places.push_unbound.Goals as goal
 use Rattle.cep_infer.proofs.places.push_unbound.Goals.{then-is_some_and+in_ok-push, else-is_some_and}
 

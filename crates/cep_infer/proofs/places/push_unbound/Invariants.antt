@@ -1,7 +1,7 @@
 use Rattle.std.proofs.Common.{◌≡◌, ◌++◌, not, drop}
 use Rattle.cep_source.specs.Variables.{occurrences_from, blanks_after}
 use Rattle.cep_base.specs.FirstNames.{has_name}
-use Rattle.cep_infer.proofs.Unbound.{places_of}
+use Rattle.cep_infer.proofs.RulesInTurn.{places_of}
 use Rattle.cep_infer.proofs.places.push_unbound.Given as goal
 
 abbrev pub invariant-loop-node : goal.invariant-loop-node

@@ -2,7 +2,7 @@ use Rattle.std.proofs.Common.{not, ◌∙◌}
 use Rattle.cep_source.specs.Variables.{Occurrence}
 use Rattle.cep_source.specs.Kept.{rule_item}
 use Rattle.cep_base.specs.FirstNames.{has_name}
-use Rattle.cep_infer.proofs.Unbound.{elem_pushed, all_pushed, unbound_is}
+use Rattle.cep_infer.proofs.RulesInTurn.{elem_pushed, all_pushed, unbound_is}
 use Rattle.cep_infer.proofs.places.unbound_at.Goals as goal
 
 pub loop-elem-preserved : goal.loop-elem-preserved

@@ -2,7 +2,7 @@ use Rattle.std.proofs.Common.{◌≡◌, ◌++◌, not, drop}
 use Rattle.cep_parse.specs.Raw.{atoms_of, raw_nodes}
 use Rattle.cep_source.specs.Variables.{occurrences_from}
 use Rattle.cep_base.specs.FirstNames.{has_name}
-use Rattle.cep_infer.proofs.Unbound.{places_of}
+use Rattle.cep_infer.proofs.RulesInTurn.{places_of}
 use Rattle.cep_infer.proofs.places.unbound_at.Given as goal
 
 abbrev pub invariant-loop-elem : goal.invariant-loop-elem

@@ -1,5 +1,5 @@
 use Rattle.std.proofs.Common.{[]}
-use Rattle.cep_lex.proofs.PlaceLemmas.{place_start}
+use Rattle.cep_lex.proofs.GapLemmas.{place_start}
 use Rattle.cep_lex.proofs.places.place.Goals as goal
 
 pub returns : goal.returns

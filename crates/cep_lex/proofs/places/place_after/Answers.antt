@@ -1,5 +1,5 @@
 use Rattle.std.proofs.Common.{arith}
-use Rattle.cep_lex.proofs.PlaceLemmas.{no_bytes, place_break, place_more}
+use Rattle.cep_lex.proofs.GapLemmas.{no_bytes, place_break, place_more}
 use Rattle.cep_lex.proofs.places.place_after.Goals as goal
 
 pub loop-byte-init : goal.loop-byte-init

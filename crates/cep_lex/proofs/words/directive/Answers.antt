@@ -4,7 +4,7 @@ use Rattle.std.proofs.lemmas.Bool.{eq-eqb}
 use Rattle.cep_lex.specs.declared.token.TokenKind.TheVariants.{Directive}
 use Rattle.cep_lex.specs.declared.words.Class.TheVariants.{Hash}
 use Rattle.cep_lex.specs.Fronts.{class}
-use Rattle.cep_lex.proofs.FrontLemmas.{run_front, run_word, run_within}
+use Rattle.cep_lex.proofs.Lexed.{run_front, run_word, run_within}
 use Rattle.cep_lex.proofs.words.directive.Goals as goal
 
 pub returns-in_default-clause-found : goal.returns-in_default-clause-found

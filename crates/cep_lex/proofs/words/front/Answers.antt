@@ -3,8 +3,7 @@ use Rattle.std.specs.Char.{is_ascii_alphabetic, is_ascii_digit}
 use Rattle.cep_lex.specs.declared.token.TokenKind.TheVariants.{Number}
 use Rattle.cep_lex.specs.declared.words.Class.TheVariants.{Letter, Digit}
 use Rattle.cep_base.specs.Spelling.{is_name_byte}
-use Rattle.cep_lex.proofs.Shapes.{most_behind}
-use Rattle.cep_lex.proofs.FrontLemmas.{front_from, mark_spelled, run_front, run_word}
+use Rattle.cep_lex.proofs.Lexed.{most_behind, front_from, mark_spelled, run_front, run_word}
 use Rattle.cep_lex.proofs.words.front.Goals as goal
 
 pub name_kind-requires : goal.name_kind-requires

@@ -9,8 +9,7 @@ use Rattle.cep_rule.specs.declared.derivation.Derivation.{Derivation}
 use Rattle.cep_rule.specs.Derivations.{proof_of}
 use Rattle.cep_rule.specs.Shapes.{IsProofOf}
 use Rattle.cep_lines.specs.Lines.{by_line, by_lines}
-use Rattle.cep_lines.proofs.Adding.{adding_next, adding_done, adding_breaks}
-use Rattle.cep_lines.proofs.LineLemmas.{lines_left, no_lines_left}
+use Rattle.cep_lines.proofs.Adding.{adding_next, adding_done, adding_breaks, lines_left, no_lines_left}
 use Rattle.cep_lines.proofs.deed.put_proofs.Goals as goal
 
 -- the derivation at a place of the list

@@ -1,9 +1,8 @@
 use Rattle.std.proofs.Common.{◌≤◌, ◌+◌, subst}
 use Rattle.cep_rule.specs.Matching.{offers_of}
 use Rattle.cep_lines.specs.Lines.{offer_line, offer_lines}
-use Rattle.cep_lines.proofs.Adding.{adding_none, adding_next, adding_done, adding_breaks}
+use Rattle.cep_lines.proofs.Adding.{adding_none, adding_next, adding_done, adding_breaks, offers_from, whole_offers, offers_left, no_offers_left}
 use Rattle.cep_base.proofs.Outcomes.{on_err}
-use Rattle.cep_lines.proofs.OfferLines.{offers_from, whole_offers, offers_left, no_offers_left}
 use Rattle.cep_lines.proofs.offers.put_offers.Goals as goal
 
 pub loop-i-init : goal.loop-i-init

@@ -1,7 +1,6 @@
 use Rattle.cep_rule.specs.Matching.{offers_of}
 use Rattle.cep_lines.specs.Lines.{offer_lines}
-use Rattle.cep_lines.proofs.Adding.{IsAdding}
-use Rattle.cep_lines.proofs.OfferLines.{offers_from}
+use Rattle.cep_lines.proofs.Adding.{IsAdding, offers_from}
 use Rattle.cep_lines.proofs.offers.put_offers.Given as goal
 
 abbrev pub invariant-loop-i : goal.invariant-loop-i

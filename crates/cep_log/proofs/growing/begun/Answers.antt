@@ -1,5 +1,4 @@
-use Rattle.cep_log.proofs.LineKindLemmas.{told_none}
-use Rattle.cep_log.proofs.StepLemmas.{nothing_begins, not_some}
+use Rattle.cep_log.proofs.LineKindLemmas.{told_none, nothing_begins, not_some}
 use Rattle.cep_log.proofs.growing.begun.Goals as goal
 
 pub returns-in-None-clause-none : goal.returns-in-None-clause-none

@@ -1,8 +1,7 @@
 use Rattle.std.proofs.lemmas.Grind.{common_steps}
 use Rattle.std.proofs.Common.{arith}
 use Rattle.std.proofs.lemmas.Result.{IfOk-weaker}
-use Rattle.cep_log.proofs.LineKindLemmas.{told_none}
-use Rattle.cep_log.proofs.StepLemmas.{nothing_behind_mid, none_weaker}
+use Rattle.cep_log.proofs.LineKindLemmas.{told_none, nothing_behind_mid, none_weaker}
 use Rattle.cep_log.proofs.growing.behind_listed.Goals as goal
 
 pub returns-in_ok-log_listed-in-None-clause-none : goal.returns-in_ok-log_listed-in-None-clause-none

@@ -1,7 +1,6 @@
 use Rattle.std.proofs.Common.{◌<◌, ◌≤◌, length, arith}
 use Rattle.cep_rule.specs.Derivations.{proof_of}
-use Rattle.cep_log.proofs.LineKindLemmas.{told_none}
-use Rattle.cep_log.proofs.StepLemmas.{told_some, by_said, by_none, stage_said}
+use Rattle.cep_log.proofs.LineKindLemmas.{told_none, told_some, by_said, by_none, stage_said}
 use Rattle.cep_log.proofs.growing.behind_part.Goals as goal
 
 pub returns-in_ok-joined-in-Some-clause-some : goal.returns-in_ok-joined-in-Some-clause-some

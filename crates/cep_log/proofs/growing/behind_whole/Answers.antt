@@ -1,6 +1,5 @@
 use Rattle.std.proofs.lemmas.Result.{IfOk-weaker}
-use Rattle.cep_log.proofs.LineKindLemmas.{told_none}
-use Rattle.cep_log.proofs.StepLemmas.{nothing_behind_start, nothing_behind_steps, none_weaker}
+use Rattle.cep_log.proofs.LineKindLemmas.{told_none, nothing_behind_start, nothing_behind_steps, none_weaker}
 use Rattle.cep_log.proofs.growing.behind_whole.Goals as goal
 
 pub returns-then-not-is_empty-clause-none : goal.returns-then-not-is_empty-clause-none

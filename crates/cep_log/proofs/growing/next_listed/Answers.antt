@@ -1,8 +1,6 @@
 use Rattle.cep_rule.specs.Program.{IsProgram}
 use Rattle.cep_log.specs.Listed.{have_of}
-use Rattle.cep_log.proofs.Once.{OneValue}
-use Rattle.cep_log.proofs.LineKindLemmas.{told_none}
-use Rattle.cep_log.proofs.StepLemmas.{listed_none, told_some}
+use Rattle.cep_log.proofs.LineKindLemmas.{OneValue, told_none, listed_none, told_some}
 use Rattle.cep_log.proofs.growing.next_listed.Goals as goal
 
 pub returns-else-is_behind-clause-none : goal.returns-else-is_behind-clause-none

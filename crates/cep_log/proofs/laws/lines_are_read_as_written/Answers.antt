@@ -1,4 +1,4 @@
-use Rattle.cep_log.proofs.OneLine.{written_lines, decimal_one, atom_one, offer_one, proof_one, stage_one}
+use Rattle.cep_log.proofs.SameLogs.{written_lines, decimal_one, atom_one, offer_one, proof_one, stage_one}
 use Rattle.cep_log.proofs.laws.lines_are_read_as_written.Goals as goal
 
 pub returns-clause-lines : goal.returns-clause-lines

@@ -1,6 +1,5 @@
-use Rattle.cep_log.proofs.Writable.{StepLaws}
+use Rattle.cep_log.proofs.WrittenLogs.{StepLaws, few_lines, log_long, log_read}
 use Rattle.cep_log.proofs.SameLogs.{same_text}
-use Rattle.cep_log.proofs.WrittenLogs.{few_lines, log_long, log_read}
 use Rattle.cep_log.proofs.laws.logs_are_read_as_written.Goals as goal
 
 laws_of : goal.After-values_are_small → StepLaws

@@ -1,4 +1,4 @@
-use Rattle.cep_log.proofs.OneText.{renewals_same}
+use Rattle.cep_log.proofs.SameLogs.{renewals_same}
 use Rattle.cep_log.proofs.laws.renewals_have_one_text.Goals as goal
 
 pub returns : goal.returns

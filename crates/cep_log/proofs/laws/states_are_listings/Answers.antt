@@ -1,4 +1,4 @@
-use Rattle.cep_log.proofs.WrittenListings.{state_listing}
+use Rattle.cep_log.proofs.LegalLogs.{state_listing}
 use Rattle.cep_log.proofs.laws.states_are_listings.Goals as goal
 
 pub returns : goal.returns

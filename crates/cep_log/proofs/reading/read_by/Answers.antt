@@ -1,5 +1,5 @@
 use Rattle.std.proofs.Common.{sym, ◌∙◌, arith}
-use Rattle.cep_log.proofs.StepLemmas.{told_ok, told_err}
+use Rattle.cep_log.proofs.LineKindLemmas.{told_ok, told_err}
 use Rattle.cep_log.proofs.Passing.{all_lines, passed_none, passed_more, number_short, number_most, read_is_of, can_grow, log_said, log_is_of, stops_said, misfit_said, transitive}
 use Rattle.cep_log.proofs.reading.read_by.Goals as goal
 

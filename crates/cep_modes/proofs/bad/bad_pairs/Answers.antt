@@ -3,9 +3,8 @@ use Rattle.cep_modes.specs.Places.{holds, all_places}
 use Rattle.cep_modes.specs.declared.reach.Call.{Call}
 use Rattle.cep_modes.specs.Reaching.{IsClosed}
 use Rattle.cep_modes.specs.Leading.{TellsBad}
-use Rattle.cep_modes.proofs.Orderly.{fine_rules, fine_clauses, plain_clauses, all_low}
+use Rattle.cep_modes.proofs.Numbering.{fine_rules, fine_clauses, plain_clauses, all_low, written}
 use Rattle.cep_modes.proofs.Deciding.{decided}
-use Rattle.cep_modes.proofs.Firsts.{written}
 use Rattle.cep_modes.proofs.bad.bad_pairs.Goals as goal
 
 pub returns : goal.returns

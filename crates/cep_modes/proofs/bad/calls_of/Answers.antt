@@ -1,7 +1,7 @@
 use Rattle.std.proofs.Common.{◌<◌, ◌+◌, ◌*◌, ◌∙◌, ℕ, List, length, subst, sym}
 use Rattle.std.specs.List.{AllByRecursion}
 use Rattle.cep_modes.specs.Places.{callees}
-use Rattle.cep_modes.proofs.Orderly.{fine_rules, fine_clauses, plain_premises, plain_backs, plain_clauses, all_low, callees_low}
+use Rattle.cep_modes.proofs.Numbering.{fine_rules, fine_clauses, plain_premises, plain_backs, plain_clauses, all_low, callees_low}
 use Rattle.cep_modes.proofs.bad.calls_of.Goals as goal
 
 pub calls_of_rules-requires-clause-premises : goal.calls_of_rules-requires-clause-premises

@@ -3,8 +3,7 @@ use Rattle.std.proofs.lemmas.Option.{slice_get-get_or}
 use Rattle.cep_base.proofs.Lists.{holds_at}
 use Rattle.cep_rule.specs.Patterns.{clause_of}
 use Rattle.cep_modes.specs.Places.{positions_of, IsPlainClause}
-use Rattle.cep_modes.proofs.Looping.{callees_ended}
-use Rattle.cep_modes.proofs.Tables.{listed, number_there, callees_told}
+use Rattle.cep_modes.proofs.Looping.{callees_ended, listed, number_there, callees_told}
 use Rattle.cep_modes.proofs.callees.callees_at.Goals as goal
 
 pub get-requires : goal.get-requires

@@ -2,7 +2,7 @@ use Rattle.std.proofs.Common.{◌≡◌, ◌+◌, ap, sym, ◌∙◌, length, ma
 use Rattle.std.proofs.lemmas.List.{length-map}
 use Rattle.cep_base.proofs.Lists.{map_last}
 use Rattle.cep_modes.specs.Places.{IsClauseTable, numbers_of}
-use Rattle.cep_modes.proofs.Tables.{table_more}
+use Rattle.cep_modes.proofs.Looping.{table_more}
 use Rattle.cep_modes.proofs.callees.table.Goals as goal
 
 pub loop-pred-preserved : goal.loop-pred-preserved

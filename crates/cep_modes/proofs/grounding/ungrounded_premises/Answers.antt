@@ -9,8 +9,7 @@ use Rattle.cep_rule.specs.TypeLaws.{TypeLaws}
 use Rattle.cep_modes.specs.Grounding.{AreInOrder, AreAllMarks}
 use Rattle.cep_modes.specs.Places.{IsPlain, rule_places, all_places}
 use Rattle.cep_modes.specs.Leading.{TellsBad}
-use Rattle.cep_modes.proofs.Orderly.{IsFineRule, fine_rules, plain_premises, plain_backs}
-use Rattle.cep_modes.proofs.Firsts.{rule_within, marks_say, one_more_marked}
+use Rattle.cep_modes.proofs.Numbering.{IsFineRule, fine_rules, plain_premises, plain_backs, rule_within, marks_say, one_more_marked}
 use Rattle.cep_modes.proofs.grounding.ungrounded_premises.Goals as goal
 
 -- the rules of parts that are in order

@@ -4,7 +4,7 @@ use Rattle.std.proofs.lemmas.List.Elements.{Contains-get_or}
 use Rattle.cep_base.proofs.Elements.{all_at}
 use Rattle.cep_modes.specs.declared.reach.Call.{Call}
 use Rattle.cep_modes.specs.Leading.{IsCallWithin, here}
-use Rattle.cep_modes.proofs.Marking.{nothing_left, more_kept, more_led, more_fewer}
+use Rattle.cep_modes.proofs.Deciding.{nothing_left, more_kept, more_led, more_fewer}
 use Rattle.cep_modes.proofs.marks.pass.Goals as goal
 
 pub loop-left-init : goal.loop-left-init

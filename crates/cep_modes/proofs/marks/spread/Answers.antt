@@ -1,5 +1,5 @@
 use Rattle.cep_modes.specs.Leading.{here}
-use Rattle.cep_modes.proofs.Marking.{led_by_led}
+use Rattle.cep_modes.proofs.Deciding.{led_by_led}
 use Rattle.cep_modes.proofs.marks.spread.Goals as goal
 
 pub loop-init : goal.loop-init

@@ -1,7 +1,7 @@
 use Rattle.std.proofs.Common.{◌≡◌, ◌∙◌, ap, replicate, false, length}
 use Rattle.std.proofs.lemmas.List.{length-replicate}
 use Rattle.cep_modes.specs.Places.{holds}
-use Rattle.cep_modes.proofs.Flags.{none_set}
+use Rattle.cep_modes.proofs.Deciding.{none_set}
 use Rattle.cep_modes.proofs.reach.no_flags.Goals as goal
 
 pub returns : goal.returns

@@ -3,7 +3,7 @@ use Rattle.std.specs.List.{AllByRecursion}
 use Rattle.std.proofs.lemmas.Option.{slice_get_read}
 use Rattle.cep_modes.specs.Places.{holds, callees}
 use Rattle.cep_modes.specs.Reaching.{unset}
-use Rattle.cep_modes.proofs.Gathering.{start, step, each_seen, still_seen, same_total, no_shorter, closed}
+use Rattle.cep_modes.proofs.Deciding.{start, step, each_seen, still_seen, same_total, no_shorter, closed}
 use Rattle.cep_modes.proofs.reach.reached.Goals as goal
 
 -- fewer are left where one more is done

@@ -4,7 +4,7 @@ use Rattle.cep_order.specs.Flags.{set_places}
 use Rattle.cep_order.specs.Orders.{NamesEarlier, IsOrderBy, IsEachOnce}
 use Rattle.cep_order.specs.Waits.{CanRelease, IsReleased}
 use Rattle.cep_order.specs.Taking.{missing, IsSoFar}
-use Rattle.cep_order.proofs.OneMore.{on, is_step, can_release, fewer_missing, taken_next, one_more, none_flagged, next_part, ordered, each_once, none_taken}
+use Rattle.cep_order.proofs.SoFar.{on, is_step, can_release, fewer_missing, taken_next, one_more, none_flagged, next_part, ordered, each_once, none_taken}
 use Rattle.cep_order.proofs.ordering.order_by.Goals as goal
 
 pub loop-ready-init : goal.loop-ready-init

@@ -1,6 +1,6 @@
 use Rattle.std.proofs.Common.{inr, ⊎_elim, arith}
 use Rattle.std.proofs.lemmas.Bool.{cases_eq}
-use Rattle.cep_order.proofs.Parts.{barrier_there, no_barrier}
+use Rattle.cep_order.proofs.SoFar.{barrier_there, no_barrier}
 use Rattle.cep_order.proofs.ordering.part_end.Goals as goal
 
 pub loop-end-preserved : goal.loop-end-preserved

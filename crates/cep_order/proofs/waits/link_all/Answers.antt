@@ -5,7 +5,7 @@ use Rattle.std.proofs.lemmas.List.Elements.{Contains-get_or}
 use Rattle.cep_base.proofs.Elements.{all_at}
 use Rattle.cep_order.specs.declared.waits.Link.{Link}
 use Rattle.cep_order.specs.Waits.{AreLinksFor}
-use Rattle.cep_order.proofs.Linking.{links_begin, linked}
+use Rattle.cep_order.proofs.Releasing.{links_begin, linked}
 use Rattle.cep_order.proofs.waits.link_all.Goals as goal
 
 pub loop-number-init : goal.loop-number-init

@@ -1,7 +1,7 @@
 use Rattle.std.proofs.Common.{◌∙◌, ap}
 use Rattle.std.proofs.lemmas.List.{take_all}
 use Rattle.cep_parse.specs.Machine.{atom_of_names}
-use Rattle.cep_parse.proofs.Nodes.{names_next, still_going}
+use Rattle.cep_parse.proofs.BackAtoms.{names_next, still_going}
 use Rattle.cep_parse.proofs.atoms.add_names.Goals as goal
 
 pub loop-name-preserved : goal.loop-name-preserved

@@ -1,5 +1,5 @@
 use Rattle.std.proofs.Common.{◌∙◌, arith}
-use Rattle.cep_parse.proofs.Nodes.{set_args_past, set_args_read}
+use Rattle.cep_parse.proofs.BackAtoms.{set_args_past, set_args_read}
 use Rattle.cep_parse.proofs.atoms.set_args.Goals as goal
 
 pub returns-then-index-len : goal.returns-then-index-len

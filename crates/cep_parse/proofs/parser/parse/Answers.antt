@@ -4,8 +4,7 @@ use Rattle.cep_parse.specs.declared.state.State.TheVariants.{Plain}
 use Rattle.cep_parse.specs.declared.symbol.Symbol.{Symbol}
 use Rattle.cep_parse.specs.Files.{IsNested, IsUnexpected}
 use Rattle.cep_parse.specs.Symbols.{symbols_of}
-use Rattle.cep_parse.proofs.Reading.{IsAt, at_next, at_start, ends_early, ends_well, nests_at, stops_at}
-use Rattle.cep_parse.proofs.TokenLemmas.{all_read, open_within, symbols_cut, symbols_next, tokens_within}
+use Rattle.cep_parse.proofs.ParsedOnce.{IsAt, at_next, at_start, ends_early, ends_well, nests_at, stops_at, all_read, open_within, symbols_cut, symbols_next, tokens_within}
 use Rattle.cep_parse.proofs.parser.parse.Goals as goal
 
 pub loop-token-init : goal.loop-token-init

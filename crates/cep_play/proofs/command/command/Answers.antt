@@ -6,8 +6,7 @@ use Rattle.cep_words.specs.Words.{Play}
 use Rattle.cep_play.specs.Exchange.{talked, loaded, Went}
 use Rattle.cep_play.specs.Command.{settings_of}
 use Rattle.cep_play.specs.Outcome.{report_of, IsPlaySaid}
-use Rattle.cep_play.proofs.Done.{report_done, dialogue_done}
-use Rattle.cep_play.proofs.Begins.{cut_off, out_of_memory, report_begun, dialogue_begun}
+use Rattle.cep_play.proofs.Done.{report_done, dialogue_done, cut_off, out_of_memory, report_begun, dialogue_begun}
 use Rattle.cep_play.proofs.command.command.Goals as goal
 
 pub returns-in-Report-clause-done : goal.returns-in-Report-clause-done

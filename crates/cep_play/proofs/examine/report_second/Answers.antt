@@ -3,7 +3,7 @@ use Rattle.std.specs.Prelude.{Err}
 use Rattle.std.proofs.lemmas.Result.{IfOk-weaker}
 use Rattle.cep_play.specs.Outside.{Report}
 use Rattle.cep_play.specs.Reports.{Reports}
-use Rattle.cep_play.proofs.Reporting.{longer_file, long_reported}
+use Rattle.cep_play.proofs.Reported.{longer_file, long_reported}
 use Rattle.cep_play.proofs.examine.report_second.Goals as goal
 
 pub returns-in-Ok-clause-reported : goal.returns-in-Ok-clause-reported

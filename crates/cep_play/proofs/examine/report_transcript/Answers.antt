@@ -1,6 +1,6 @@
 use Rattle.std.proofs.lemmas.Result.{IfOk-weaker}
 use Rattle.cep_play.specs.Outcome.{report_of}
-use Rattle.cep_play.proofs.Reporting.{log_reported, misfit_reported}
+use Rattle.cep_play.proofs.Reported.{log_reported, misfit_reported}
 use Rattle.cep_play.proofs.examine.report_transcript.Goals as goal
 
 pub returns-in-Ok-clause-judged : goal.returns-in-Ok-clause-judged

@@ -1,4 +1,4 @@
-use Rattle.cep_play.proofs.OneDue.{one_due}
+use Rattle.cep_play.proofs.Playing.{one_due}
 use Rattle.cep_play.proofs.laws.one_due.Goals as goal
 
 pub returns : goal.returns

@@ -2,8 +2,7 @@ use Rattle.std.proofs.Common.{ap, inl, inr}
 use Rattle.std.specs.Prelude.{Err}
 use Rattle.cep_base.specs.declared.limits.TheConstants.{MOST_TEXT}
 use Rattle.cep_play.specs.Exchange.{loaded}
-use Rattle.cep_play.proofs.Reporting.{text_refused, longer_file}
-use Rattle.cep_play.proofs.Reported.{found_in}
+use Rattle.cep_play.proofs.Reported.{text_refused, longer_file, found_in}
 use Rattle.cep_play.proofs.loading.program_in.Goals as goal
 
 pub returns-in-Ok-clause-found : goal.returns-in-Ok-clause-found

@@ -1,6 +1,6 @@
 use Rattle.std.proofs.Common.{subst}
 use Rattle.cep_ground.specs.Refusals.{IsAccepted}
-use Rattle.cep_play.proofs.Reporting.{text_refused}
+use Rattle.cep_play.proofs.Reported.{text_refused}
 use Rattle.cep_play.proofs.loading.program_of.Goals as goal
 
 pub returns-in-Ok : goal.returns-in-Ok

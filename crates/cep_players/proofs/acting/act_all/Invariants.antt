@@ -1,6 +1,6 @@
 use Rattle.std.proofs.Common.{◌≡◌, ◌≤◌}
-use Rattle.cep_players.proofs.Words.{IsPlayed}
-use Rattle.cep_players.proofs.OffersDone.{GoneTo}
+use Rattle.cep_players.proofs.BlockedLines.{IsPlayed}
+use Rattle.cep_players.proofs.Going.{GoneTo}
 use Rattle.cep_players.proofs.acting.act_all.Given as goal
 
 abbrev pub invariant-loop-i : goal.invariant-loop-i

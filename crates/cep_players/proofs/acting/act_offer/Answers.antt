@@ -1,6 +1,6 @@
 use Rattle.std.proofs.Common.{refl, arith}
-use Rattle.cep_players.proofs.Words.{IfOk-weaker, on_err_weaker, did_map, did_same, both_ok}
-use Rattle.cep_players.proofs.OffersDone.{acts_begin, offer_acted, offer_moved}
+use Rattle.cep_players.proofs.BlockedLines.{IfOk-weaker, on_err_weaker, did_map, did_same, both_ok}
+use Rattle.cep_players.proofs.Going.{acts_begin, offer_acted, offer_moved}
 use Rattle.cep_players.proofs.acting.act_offer.Goals as goal
 
 pub place_in-place-requires-clause-there : goal.place_in-place-requires-clause-there

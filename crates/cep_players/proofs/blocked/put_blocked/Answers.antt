@@ -1,6 +1,5 @@
 use Rattle.std.proofs.Common.{ap, ◌∙◌, Some}
-use Rattle.cep_players.proofs.Words.{holds_at, IsOfferOf}
-use Rattle.cep_players.proofs.BlockedLines.{step_blocked, step_admitted, end_blocked}
+use Rattle.cep_players.proofs.BlockedLines.{holds_at, IsOfferOf, step_blocked, step_admitted, end_blocked}
 use Rattle.cep_players.proofs.blocked.put_blocked.Goals.{then-not-get+in_ok-put_blocked_line, else-not-get}
 use Rattle.cep_players.proofs.blocked.put_blocked.Goals as goal
 

@@ -1,5 +1,5 @@
 use Rattle.std.proofs.Common.{◌≡◌, ◌+◌, ◌++◌}
-use Rattle.cep_players.proofs.Words.{drop, blocked_lines}
+use Rattle.cep_players.proofs.BlockedLines.{drop, blocked_lines}
 use Rattle.cep_players.proofs.blocked.put_blocked.Given as goal
 
 abbrev pub invariant-loop-i : goal.invariant-loop-i

@@ -1,4 +1,4 @@
-use Rattle.cep_players.proofs.Words.{on_err, blocked_lines, did_nothing}
+use Rattle.cep_players.proofs.BlockedLines.{on_err, blocked_lines, did_nothing}
 use Rattle.cep_players.proofs.blocked.tell_blocked.Goals as goal
 
 pub returns-in_err-put_blocked-clause-begun : goal.returns-in_err-put_blocked-clause-begun

@@ -1,6 +1,5 @@
 use Rattle.std.proofs.Common.{◌≡◌, ◌-◌, ◌∷◌, [], length, length-append, Some, refl, sym, ap, ◌∙◌, arith}
-use Rattle.cep_players.proofs.Words.{Contains, slice_get, did_same, did_map, on_err, all_pushed, contains_at, offers_of, Input, Typed, Spent}
-use Rattle.cep_players.proofs.AllPlayers.{none_chose, did_more, did_stop, fell_before, fell_short, fell_behind}
+use Rattle.cep_players.proofs.BlockedLines.{Contains, slice_get, did_same, did_map, on_err, all_pushed, contains_at, offers_of, Input, Typed, Spent, none_chose, did_more, did_stop, fell_before, fell_short, fell_behind}
 use Rattle.cep_players.proofs.choices.choices.Goals as goal
 
 pub loop-player-init : goal.loop-player-init

@@ -1,5 +1,5 @@
 use Rattle.std.proofs.Common.{◌≡◌, ◌≤◌, length}
-use Rattle.cep_players.proofs.Words.{Contains, AllByRecursion, Did, offers_of, AllChoose}
+use Rattle.cep_players.proofs.BlockedLines.{Contains, AllByRecursion, Did, offers_of, AllChoose}
 use Rattle.cep_base.specs.declared.limits.TheConstants.{MOST_TYPED}
 use Rattle.cep_players.proofs.choices.choices.Given as goal
 

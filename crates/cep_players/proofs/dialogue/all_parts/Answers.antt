@@ -1,6 +1,6 @@
 use Rattle.std.proofs.Common.{refl, arith, ◌∙◌}
-use Rattle.cep_players.proofs.Words.{did_same, did_map, did_then, on_err, position_of}
-use Rattle.cep_run.proofs.Settling.{nothing_spent}
+use Rattle.cep_players.proofs.BlockedLines.{did_same, did_map, did_then, on_err, position_of}
+use Rattle.cep_run.proofs.Framed.{nothing_spent}
 use Rattle.cep_players.proofs.Going.{no_parts, parts_then, parts_end, parts_refused}
 use Rattle.cep_players.proofs.dialogue.all_parts.Goals as goal
 

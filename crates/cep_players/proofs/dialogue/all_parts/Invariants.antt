@@ -1,5 +1,5 @@
 use Rattle.std.proofs.Common.{◌≡◌, ◌-◌, ◌≤◌}
-use Rattle.cep_players.proofs.Words.{Did, position_of, HasSpent, IsPlayed, DoesParts}
+use Rattle.cep_players.proofs.BlockedLines.{Did, position_of, HasSpent, IsPlayed, DoesParts}
 use Rattle.cep_players.proofs.Going.{unspent}
 use Rattle.cep_players.proofs.dialogue.all_parts.Given as goal
 

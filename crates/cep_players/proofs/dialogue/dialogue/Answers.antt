@@ -1,4 +1,4 @@
-use Rattle.cep_players.proofs.Words.{did_map, did_then, on_err, header, end_lines, whole_supply, position_of, IsSomeDialogue, IsDialogueWith, IsWholeInRounds, IsRunInRounds, did_nothing}
+use Rattle.cep_players.proofs.BlockedLines.{did_map, did_then, on_err, header, end_lines, whole_supply, position_of, IsSomeDialogue, IsDialogueWith, IsWholeInRounds, IsRunInRounds, did_nothing}
 use Rattle.cep_run.proofs.Framed.{head_refused, run_refused, whole_said, tail_refused}
 use Rattle.cep_run.proofs.Runs.{started_at}
 use Rattle.cep_players.proofs.Going.{dialogue_there, dialogue_made, run_made}

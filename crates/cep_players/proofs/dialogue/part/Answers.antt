@@ -1,5 +1,5 @@
 use Rattle.std.proofs.Common.{◌≡◌, refl, sym, arith}
-use Rattle.cep_players.proofs.Words.{quiet_end, turns_end, IfOk-weaker, on_err_weaker, did_map, position_of}
+use Rattle.cep_players.proofs.BlockedLines.{quiet_end, turns_end, IfOk-weaker, on_err_weaker, did_map, position_of}
 use Rattle.cep_run.proofs.Turns.{offered_here, crowds_here}
 use Rattle.cep_players.proofs.Going.{not_for_all, ends_before, turn_went, turn_refused}
 use Rattle.cep_players.proofs.dialogue.part.Goals as goal
@@ -24,8 +24,8 @@ returns-then-not-len_ok-clause-went g c =
 pub round-requires-clause-here : goal.round-requires-clause-here
 round-requires-clause-here g c =
     let here =
-        offered_here g.M.Matcher.height_held g.M.Matcher.state_held g.M.Matcher.offers_held c.args.program.now c.args.settings c.args.config c.in-Some.group c.requires.played.height
-        (g.met.M.Matcher.exact c.args.program.now c.args.config.matcher c.requires.played.of_program.matcher) c.matcher.ensures.same_state c.matcher.ensures.listed c.in-Some.ensures.listed (c.in-Some.ensures.asked c.args.program.now c.requires.played.of_program) (rw c.turns.ensures at c.if-turns-limit.false) c.matcher.result.now c.matcher.ensures.matcher c.len_ok.result c.len_ok.ensures c.if-not-len_ok.false in
+    offered_here g.M.Matcher.height_held g.M.Matcher.state_held g.M.Matcher.offers_held c.args.program.now c.args.settings c.args.config c.in-Some.group c.requires.played.height
+    (g.met.M.Matcher.exact c.args.program.now c.args.config.matcher c.requires.played.of_program.matcher) c.matcher.ensures.same_state c.matcher.ensures.listed c.in-Some.ensures.listed (c.in-Some.ensures.asked c.args.program.now c.requires.played.of_program) (rw c.turns.ensures at c.if-turns-limit.false) c.matcher.result.now c.matcher.ensures.matcher c.len_ok.result c.len_ok.ensures c.if-not-len_ok.false in
     let both = c.is_for_all.ensures.0 c.if-is_for_all.true in
     record { remain = here.remain; for_all = record { interactive = both.0; asked = rw both.1 at here.asked }; offered = rw (sym both.1) here.offered; few = here.few }
 

@@ -1,5 +1,5 @@
 use Rattle.std.proofs.Common.{◌++◌}
-use Rattle.cep_players.proofs.Words.{IfOk-weaker, on_err_weaker, did_map}
+use Rattle.cep_players.proofs.BlockedLines.{IfOk-weaker, on_err_weaker, did_map}
 use Rattle.cep_players.proofs.dialogue.play_in_rounds.Goals as goal
 
 pub returns-clause-said : goal.returns-clause-said

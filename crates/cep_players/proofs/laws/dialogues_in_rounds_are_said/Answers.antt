@@ -1,4 +1,4 @@
-use Rattle.cep_players.proofs.Words.{start_of, whole_supply}
+use Rattle.cep_players.proofs.BlockedLines.{start_of, whole_supply}
 use Rattle.cep_players.proofs.laws.dialogues_in_rounds_are_said.Goals as goal
 
 pub returns : goal.returns

@@ -1,4 +1,4 @@
-use Rattle.cep_players.proofs.Words.{IsPermutation-refl, admitted}
+use Rattle.cep_players.proofs.BlockedLines.{IsPermutation-refl, admitted}
 use Rattle.cep_players.proofs.laws.players_are_lawful.Goals as goal
 
 pub returns : goal.returns

@@ -1,4 +1,4 @@
-use Rattle.cep_players.proofs.RoundSteps.{run_deeds, run_quiet}
+use Rattle.cep_players.proofs.RoundsThere.{run_deeds, run_quiet}
 use Rattle.cep_players.proofs.laws.rounds_are_deeds.Goals as goal
 
 pub returns-clause-deeds : goal.returns-clause-deeds

@@ -1,5 +1,5 @@
-use Rattle.cep_players.proofs.Words.{IsPermutation-refl, start_of, whole_supply, admitted}
-use Rattle.cep_players.proofs.RoundSteps.{deeds_done, together}
+use Rattle.cep_players.proofs.BlockedLines.{IsPermutation-refl, start_of, whole_supply, admitted}
+use Rattle.cep_players.proofs.RoundsThere.{deeds_done, together}
 use Rattle.cep_players.proofs.laws.rounds_end_together.Goals as goal
 
 pub returns-clause-rounds : goal.returns-clause-rounds

@@ -1,6 +1,6 @@
 use Rattle.std.proofs.Common.{◌++◌}
-use Rattle.cep_players.proofs.Words.{start_of, whole_supply, all_done, done_before}
-use Rattle.cep_players.proofs.Told.{run_told}
+use Rattle.cep_players.proofs.BlockedLines.{start_of, whole_supply, all_done, done_before}
+use Rattle.cep_players.proofs.RoundsThere.{run_told}
 use Rattle.cep_players.proofs.laws.rounds_have_logs.Goals as goal
 
 pub returns : goal.returns

@@ -2,7 +2,7 @@ use Rattle.std.proofs.Common.{◌≡◌, ℕ, subst, sym}
 use Rattle.cep_rule.specs.Steps.{Spot, start_spot}
 use Rattle.cep_log.specs.Legal.{AreLegalSteps}
 use Rattle.cep_replay.specs.Playing.{HaveFewOffers}
-use Rattle.cep_replay.proofs.Answering.{Known, answered_there}
+use Rattle.cep_replay.proofs.Playing.{Known, answered_there}
 use Rattle.cep_replay.proofs.laws.interactive_logs_are_answered.Goals as goal
 
 pub returns : goal.returns

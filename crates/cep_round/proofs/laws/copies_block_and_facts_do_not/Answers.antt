@@ -1,4 +1,4 @@
-use Rattle.cep_round.proofs.Counts.{facts_there, copies_there}
+use Rattle.cep_round.proofs.Admitted.{facts_there, copies_there}
 use Rattle.cep_round.proofs.laws.copies_block_and_facts_do_not.Goals as goal
 
 pub returns-clause-facts : goal.returns-clause-facts

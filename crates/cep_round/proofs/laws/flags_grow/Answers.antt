@@ -1,4 +1,4 @@
-use Rattle.cep_round.proofs.Flags.{one_admitted, one_blocked}
+use Rattle.cep_round.proofs.Admitted.{one_admitted, one_blocked}
 use Rattle.cep_round.proofs.laws.flags_grow.Goals as goal
 
 pub returns-clause-admitted : goal.returns-clause-admitted

@@ -1,6 +1,6 @@
 use Rattle.cep_rule.specs.Offers.{Applies}
 use Rattle.cep_round.specs.Rounds.{admitted}
-use Rattle.cep_round.proofs.Counts.{each_admitted}
+use Rattle.cep_round.proofs.Admitted.{each_admitted}
 use Rattle.cep_round.proofs.laws.rounds_are_lawful.Goals as goal
 
 pub returns-clause-done : goal.returns-clause-done

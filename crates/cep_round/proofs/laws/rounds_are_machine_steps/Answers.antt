@@ -1,4 +1,4 @@
-use Rattle.cep_round.proofs.MachineSteps.{machine_steps}
+use Rattle.cep_round.proofs.Rests.{machine_steps}
 use Rattle.cep_round.proofs.laws.rounds_are_machine_steps.Goals as goal
 
 pub returns : goal.returns

@@ -1,4 +1,4 @@
-use Rattle.cep_round.proofs.Counts.{what_is_admitted}
+use Rattle.cep_round.proofs.Admitted.{what_is_admitted}
 use Rattle.cep_round.proofs.laws.what_is_admitted_is_there.Goals as goal
 
 pub returns : goal.returns

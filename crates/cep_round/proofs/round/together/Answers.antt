@@ -11,11 +11,8 @@ use Rattle.cep_rule.specs.Offers.{Applies}
 use Rattle.cep_round.specs.Rounds.{admitted, Together}
 use Rattle.cep_round.specs.Sides.{needed_by, given_by}
 use Rattle.cep_round.specs.Orders.{AreOffersDone, MakesFitAtoms, LeadInOrder}
-use Rattle.cep_round.proofs.Counts.{each_admitted}
-use Rattle.cep_round.proofs.Orders.{all_in_order}
-use Rattle.cep_round.proofs.SideAtoms.{of_applies}
-use Rattle.cep_round.proofs.Admitted.{as_many_flags, next_admitted, next_blocked, gathered_more, gathered_same}
-use Rattle.cep_round.proofs.Exchanges.{needed_are_ground, given_are_ground, few_needed, few_given, new_bag, leads_together}
+use Rattle.cep_round.proofs.Admitted.{each_admitted, as_many_flags, next_admitted, next_blocked, gathered_more, gathered_same}
+use Rattle.cep_round.proofs.Orders.{all_in_order, of_applies, needed_are_ground, given_are_ground, few_needed, few_given, new_bag, leads_together}
 use Rattle.cep_round.proofs.round.together.Goals as goal
 use Rattle.cep_round.proofs.round.together.Goals.{then-get+in_ok-push_needed+in_ok-push_given, else-get}
 

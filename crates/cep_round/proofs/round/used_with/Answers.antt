@@ -2,8 +2,7 @@ use Rattle.std.proofs.Common.{◌++◌, List, sym, ap, subst, ◌∙◌}
 use Rattle.std.specs.List.{AllByRecursion}
 use Rattle.cep_term.specs.Tree.{AtomTree, IsGroundAtom}
 use Rattle.cep_round.specs.Sides.{needed_by}
-use Rattle.cep_round.proofs.SideAtoms.{needed_ground}
-use Rattle.cep_round.proofs.Exchanges.{used_with_is, few_with}
+use Rattle.cep_round.proofs.Orders.{needed_ground, used_with_is, few_with}
 use Rattle.cep_round.proofs.round.used_with.Goals as goal
 
 pub join-requires-clause-ground : goal.join-requires-clause-ground

@@ -2,7 +2,7 @@ use Rattle.std.proofs.Common.{true, false, ◌∷◌, [], ◌++◌, length, sym,
 use Rattle.cep_base.proofs.Lists.{holds_at_mapped}
 use Rattle.cep_term.specs.Tree.{AtomTree, IsAtomInRange}
 use Rattle.cep_rule.specs.Patterns.{PremiseTree, premise_of}
-use Rattle.cep_round.proofs.Premises.{next_staying, added_next, added_same}
+use Rattle.cep_round.proofs.Rests.{next_staying, added_next, added_same}
 use Rattle.cep_round.proofs.sides.push_kept.Goals as goal
 use Rattle.cep_round.proofs.sides.push_kept.Goals.{then-stays+in_ok-instance+in_ok-push, else-stays}
 

@@ -2,7 +2,7 @@ use Rattle.std.proofs.Common.{◌∷◌, [], ◌++◌, length, ap, ◌∙◌}
 use Rattle.cep_base.proofs.Lists.{holds_at_mapped}
 use Rattle.cep_term.specs.Tree.{AtomTree, IsAtomInRange}
 use Rattle.cep_rule.specs.Patterns.{PremiseTree, premise_of}
-use Rattle.cep_round.proofs.Premises.{next_premise, added_next}
+use Rattle.cep_round.proofs.Rests.{next_premise, added_next}
 use Rattle.cep_round.proofs.sides.push_premises.Goals as goal
 
 pub instance-requires : goal.instance-requires

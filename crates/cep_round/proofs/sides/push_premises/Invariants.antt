@@ -1,6 +1,6 @@
 use Rattle.std.proofs.Common.{◌≡◌, ◌++◌, take}
 use Rattle.cep_rule.specs.Instances.{full_instances}
-use Rattle.cep_round.proofs.Premises.{atoms_among}
+use Rattle.cep_round.proofs.Rests.{atoms_among}
 use Rattle.cep_round.proofs.sides.push_premises.Given as goal
 
 abbrev pub invariant-loop-i : goal.invariant-loop-i

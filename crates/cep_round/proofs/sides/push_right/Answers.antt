@@ -1,6 +1,6 @@
 use Rattle.std.proofs.Common.{◌∷◌, [], ◌++◌, ap, ◌∙◌}
 use Rattle.cep_term.specs.Tree.{AtomTree, atom_of}
-use Rattle.cep_round.proofs.Premises.{next_right, added_next}
+use Rattle.cep_round.proofs.Rests.{next_right, added_next}
 use Rattle.cep_round.proofs.sides.push_right.Goals as goal
 
 pub loop-i-preserved : goal.loop-i-preserved

@@ -3,7 +3,7 @@ use Rattle.cep_term.specs.Multiset.{Multiset, sum_of, copies_in, gained}
 use Rattle.cep_base.proofs.Lists.{holds_at}
 use Rattle.cep_term.specs.Tree.{AtomTree, IsGroundAtom, atom_of}
 use Rattle.cep_rule.specs.Typing.{is_fact}
-use Rattle.cep_rule.proofs.Gains.{none_yet, skipped, taken}
+use Rattle.cep_rule.proofs.Copies.{none_yet, skipped, taken}
 use Rattle.cep_rule.proofs.gaining.gained.Goals as goal
 use Rattle.cep_rule.proofs.gaining.gained.Goals.{then-not-is_held+in_ok-hold+in_ok-copy+in_ok-push, else-not-is_held}
 

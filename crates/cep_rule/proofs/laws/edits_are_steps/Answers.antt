@@ -1,5 +1,4 @@
-use Rattle.cep_rule.proofs.StepLaws.{edit_is_step, lean_is_step}
-use Rattle.cep_rule.proofs.SideLaws.{ground_used, ground_made}
+use Rattle.cep_rule.proofs.StepLaws.{edit_is_step, lean_is_step, ground_used, ground_made}
 use Rattle.cep_rule.proofs.laws.edits_are_steps.Goals as goal
 
 pub returns : goal.returns

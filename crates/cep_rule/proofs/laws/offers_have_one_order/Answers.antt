@@ -1,4 +1,4 @@
-use Rattle.cep_rule.proofs.OfferLaws.{offer_cmp_total, offer_cmp_ties}
+use Rattle.cep_rule.proofs.Copies.{offer_cmp_total, offer_cmp_ties}
 use Rattle.cep_rule.proofs.laws.offers_have_one_order.Goals as goal
 
 pub returns : goal.returns

@@ -1,4 +1,4 @@
-use Rattle.cep_rule.proofs.OfferLaws.{one_offers}
+use Rattle.cep_rule.proofs.Copies.{one_offers}
 use Rattle.cep_rule.proofs.laws.one_list_of_offers.Goals as goal
 
 pub returns : goal.returns

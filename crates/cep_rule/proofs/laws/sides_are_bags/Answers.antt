@@ -1,5 +1,5 @@
 use Rattle.cep_rule.specs.Typing.{is_fact}
-use Rattle.cep_rule.proofs.SideLaws.{ground_left, ground_right, ground_taken, ground_added, ground_used, ground_made}
+use Rattle.cep_rule.proofs.StepLaws.{ground_left, ground_right, ground_taken, ground_added, ground_used, ground_made}
 use Rattle.cep_rule.proofs.laws.sides_are_bags.Goals as goal
 
 pub returns : goal.returns

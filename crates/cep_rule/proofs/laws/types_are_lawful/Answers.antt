@@ -1,5 +1,4 @@
-use Rattle.cep_rule.proofs.InstanceLaws.{ground_instance, typed_instance}
-use Rattle.cep_rule.proofs.TypedAtoms.{atom_in_range, as_many_values}
+use Rattle.cep_rule.proofs.StepLaws.{ground_instance, typed_instance, atom_in_range, as_many_values}
 use Rattle.cep_rule.proofs.TypedValues.{term_values, args_values, term_typed, args_typed, values_from_each, values_to_each}
 use Rattle.cep_rule.proofs.laws.types_are_lawful.Goals as goal
 

@@ -1,4 +1,4 @@
-use Rattle.cep_rule.proofs.SmallValues.{offer_small, proof_small}
+use Rattle.cep_rule.proofs.StepLaws.{offer_small, proof_small}
 use Rattle.cep_rule.proofs.laws.values_are_small.Goals as goal
 
 pub returns : goal.returns

@@ -1,7 +1,7 @@
 use Rattle.std.proofs.Common.{◌↔◌, IsTrue, subst}
 use Rattle.cep_term.specs.Tree.{AtomTree, atom_of}
 use Rattle.cep_rule.specs.Derivations.{proof_of, Proves}
-use Rattle.cep_rule.proofs.Telling.{atom_alone}
+use Rattle.cep_rule.proofs.TypedValues.{atom_alone}
 use Rattle.cep_rule.proofs.proving.proves.Goals as goal
 
 pub returns : goal.returns

@@ -1,7 +1,7 @@
 use Rattle.std.proofs.Common.{length, sym}
 use Rattle.std.proofs.lemmas.Bool.{ltb-true}
 use Rattle.cep_term.specs.Tree.{variable}
-use Rattle.cep_rule.proofs.Telling.{value_told}
+use Rattle.cep_rule.proofs.TypedValues.{value_told}
 use Rattle.cep_rule.proofs.told.value_of.Goals as goal
 
 pub returns-in-Some : goal.returns-in-Some

@@ -1,8 +1,7 @@
 use Rattle.std.proofs.Common.{refl, ◌∙◌, arith}
 use Rattle.cep_base.proofs.Outcomes.{on_err}
 use Rattle.cep_base.proofs.Did.{did_map}
-use Rattle.cep_run.proofs.Fronts.{hears_on}
-use Rattle.cep_run.proofs.Unheard.{front_left}
+use Rattle.cep_run.proofs.Framed.{hears_on, front_left}
 use Rattle.cep_run.proofs.Hearing.{await_first, await_next, end_chosen, end_no_more, end_no_room, end_short, end_answer_short}
 use Rattle.cep_run.proofs.choice.choose.Goals as goal
 

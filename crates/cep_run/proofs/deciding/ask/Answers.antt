@@ -2,7 +2,7 @@ use Rattle.std.proofs.Common.{refl}
 use Rattle.std.proofs.lemmas.Result.{IfOk-weaker, on_err_weaker}
 use Rattle.cep_base.proofs.Did.{did_put, did_then, did_map}
 use Rattle.cep_base.proofs.Outcomes.{on_err}
-use Rattle.cep_run.proofs.Fronts.{asks_after, asks_on, hears_behind, did_part}
+use Rattle.cep_run.proofs.Framed.{asks_after, asks_on, hears_behind, did_part}
 use Rattle.cep_run.proofs.deciding.ask.Goals as goal
 
 pub returns-clause-heard : goal.returns-clause-heard

@@ -4,8 +4,7 @@ use Rattle.cep_base.proofs.Did.{did_map}
 use Rattle.cep_base.proofs.Outcomes.{on_err}
 use Rattle.cep_rule.specs.Matching.{offers_of}
 use Rattle.cep_lines.specs.Lines.{offer_lines}
-use Rattle.cep_run.proofs.Fronts.{asks_on, player_on, unasked_on, did_nothing}
-use Rattle.cep_run.proofs.Settling.{player_settles, unasked_settles, player_spends, unasked_spends, nobody}
+use Rattle.cep_run.proofs.Framed.{asks_on, player_on, unasked_on, did_nothing, player_settles, unasked_settles, player_spends, unasked_spends, nobody}
 use Rattle.cep_run.proofs.deciding.decide.Goals as goal
 
 pub returns-in_ok-text-clause-settled : goal.returns-in_ok-text-clause-settled

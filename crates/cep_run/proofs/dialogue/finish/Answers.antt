@@ -1,6 +1,6 @@
 use Rattle.cep_lines.specs.Lines.{end_lines}
 use Rattle.cep_base.proofs.Outcomes.{on_err}
-use Rattle.cep_run.proofs.Fronts.{did_nothing}
+use Rattle.cep_run.proofs.Framed.{did_nothing}
 use Rattle.cep_run.proofs.dialogue.finish.Goals as goal
 
 pub returns-in_err-put_end-clause-begun : goal.returns-in_err-put_end-clause-begun

@@ -12,11 +12,8 @@ use Rattle.cep_run.specs.Turn.{position_of, IsWholeRun}
 use Rattle.cep_run.specs.Said.{IsSomeSaid}
 use Rattle.cep_run.specs.declared.tally.Tally.{Tally}
 use Rattle.cep_run.proofs.Counting.{run_counted}
-use Rattle.cep_run.proofs.Fronts.{did_nothing}
-use Rattle.cep_run.proofs.Framed.{head_refused, run_refused, whole_said, tail_refused}
-use Rattle.cep_run.proofs.Runs.{IsTold, told_made, told_otherwise, started_at, dialogue_from, run_dialogue}
-use Rattle.cep_run.proofs.Saying.{is_said, some_said}
-use Rattle.cep_run.proofs.Unheard.{whole_left}
+use Rattle.cep_run.proofs.Framed.{did_nothing, head_refused, run_refused, whole_said, tail_refused, whole_left}
+use Rattle.cep_run.proofs.Runs.{IsTold, told_made, told_otherwise, started_at, dialogue_from, run_dialogue, is_said, some_said}
 use Rattle.cep_run.proofs.dialogue.play.Goals as goal
 
 pub all_turns-requires-clause-played : goal.all_turns-requires-clause-played

@@ -1,4 +1,4 @@
-use Rattle.cep_run.proofs.DialogueThere.{dialogue_there}
+use Rattle.cep_run.proofs.Transcribed.{dialogue_there}
 use Rattle.cep_run.proofs.laws.dialogues_are_there.Goals as goal
 
 pub returns : goal.returns

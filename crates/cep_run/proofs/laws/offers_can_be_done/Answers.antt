@@ -1,4 +1,4 @@
-use Rattle.cep_run.proofs.OfferDone.{offer_done}
+use Rattle.cep_run.proofs.RunThere.{offer_done}
 use Rattle.cep_run.proofs.laws.offers_can_be_done.Goals as goal
 
 pub returns : goal.returns

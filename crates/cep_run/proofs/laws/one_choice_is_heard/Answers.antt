@@ -1,6 +1,6 @@
 use Rattle.cep_run.proofs.HearsThere.{hears_there, heard_within}
 use Rattle.cep_run.proofs.OneReading.{one_hearing}
-use Rattle.cep_run.proofs.Unheard.{hears_left}
+use Rattle.cep_run.proofs.Framed.{hears_left}
 use Rattle.cep_run.proofs.laws.one_choice_is_heard.Goals as goal
 
 pub returns-clause-there : goal.returns-clause-there

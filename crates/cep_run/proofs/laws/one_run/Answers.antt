@@ -1,4 +1,4 @@
-use Rattle.cep_run.proofs.OneRun.{one_run}
+use Rattle.cep_run.proofs.OneDialogue.{one_run}
 use Rattle.cep_run.proofs.laws.one_run.Goals as goal
 
 pub returns : goal.returns

@@ -1,4 +1,4 @@
-use Rattle.cep_run.proofs.OneRun.{one_question, one_turn}
+use Rattle.cep_run.proofs.OneDialogue.{one_question, one_turn}
 use Rattle.cep_run.proofs.laws.one_turn.Goals as goal
 
 pub returns-clause-questions : goal.returns-clause-questions

@@ -1,5 +1,4 @@
-use Rattle.cep_run.proofs.StepThere.{there_laws}
-use Rattle.cep_run.proofs.RunFronts.{question_leads}
+use Rattle.cep_run.proofs.RunThere.{there_laws, question_leads}
 use Rattle.cep_run.proofs.laws.questions_lead_on.Goals as goal
 
 pub returns : goal.returns

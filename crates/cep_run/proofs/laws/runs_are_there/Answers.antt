@@ -1,5 +1,4 @@
-use Rattle.cep_run.proofs.StepThere.{there_laws}
-use Rattle.cep_run.proofs.RunThere.{runs_there}
+use Rattle.cep_run.proofs.RunThere.{there_laws, runs_there}
 use Rattle.cep_run.proofs.laws.runs_are_there.Goals as goal
 
 pub returns : goal.returns

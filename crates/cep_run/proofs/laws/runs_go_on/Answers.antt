@@ -1,5 +1,4 @@
-use Rattle.cep_run.proofs.StepThere.{there_laws}
-use Rattle.cep_run.proofs.RunFronts.{question_begins, turn_begins}
+use Rattle.cep_run.proofs.RunThere.{there_laws, question_begins, turn_begins}
 use Rattle.cep_run.proofs.laws.runs_go_on.Goals as goal
 
 pub returns : goal.returns

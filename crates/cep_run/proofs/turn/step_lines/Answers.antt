@@ -1,7 +1,7 @@
 use Rattle.std.proofs.Common.{refl, sym, ◌∙◌}
 use Rattle.cep_base.proofs.Lists.{some_same}
 use Rattle.cep_rule.specs.Instances.{full_instances}
-use Rattle.cep_run.proofs.StepLines.{applied_has_text, next_in_range, all_of_shape}
+use Rattle.cep_run.proofs.Turns.{applied_has_text, next_in_range, all_of_shape}
 use Rattle.cep_run.proofs.turn.step_lines.Goals as goal
 
 pub put_step_lines-requires-clause-offer : goal.put_step_lines-requires-clause-offer

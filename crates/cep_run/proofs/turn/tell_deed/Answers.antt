@@ -2,7 +2,7 @@ use Rattle.std.proofs.Common.{refl}
 use Rattle.std.proofs.lemmas.Result.{on_ok_weaker, on_err_weaker}
 use Rattle.cep_base.proofs.Did.{did_put}
 use Rattle.cep_base.proofs.Outcomes.{on_err}
-use Rattle.cep_run.proofs.Fronts.{did_part, did_nothing}
+use Rattle.cep_run.proofs.Framed.{did_part, did_nothing}
 use Rattle.cep_run.proofs.Unread.{untold_put}
 use Rattle.cep_run.proofs.turn.tell_deed.Goals as goal
 

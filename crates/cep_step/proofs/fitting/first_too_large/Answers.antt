@@ -4,7 +4,7 @@ use Rattle.std.proofs.lemmas.List.{take_all, length-map}
 use Rattle.cep_base.proofs.Lists.{get_mapped}
 use Rattle.cep_term.specs.Tree.{atom_of, IsFit}
 use Rattle.cep_rule.specs.Instances.{full_instance, full_instances}
-use Rattle.cep_step.proofs.Weights.{fit_next, beyond}
+use Rattle.cep_step.proofs.Ready.{fit_next, beyond}
 use Rattle.cep_step.proofs.fitting.first_too_large.Goals as goal
 
 pub loop-i-preserved : goal.loop-i-preserved

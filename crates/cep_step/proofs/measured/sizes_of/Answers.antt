@@ -1,7 +1,7 @@
 use Rattle.std.proofs.Common.{[], ◌∷◌, ◌++◌, ap, ◌∙◌}
 use Rattle.cep_term.specs.Tree.{tree_of}
 use Rattle.cep_step.specs.declared.size.Size.{Size}
-use Rattle.cep_step.proofs.SizesOf.{next_size}
+use Rattle.cep_step.proofs.Ready.{next_size}
 use Rattle.cep_step.proofs.measured.sizes_of.Goals as goal
 
 pub loop-v-preserved : goal.loop-v-preserved

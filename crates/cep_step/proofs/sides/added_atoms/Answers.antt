@@ -5,7 +5,7 @@ use Rattle.cep_term.specs.Multiset.{without}
 use Rattle.cep_rule.specs.Typing.{is_fact}
 use Rattle.cep_rule.specs.Instances.{full_instance, full_instances, kept_of}
 use Rattle.cep_base.proofs.Lists.{holds_at}
-use Rattle.cep_step.proofs.Premises.{next_instances, all_instances}
+use Rattle.cep_step.proofs.Ready.{next_instances, all_instances}
 use Rattle.cep_step.proofs.sides.added_atoms.Goals as goal
 
 pub push_instance-requires : goal.push_instance-requires

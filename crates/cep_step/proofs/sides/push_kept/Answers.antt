@@ -2,7 +2,7 @@ use Rattle.std.proofs.Common.{List, [], ◌∷◌, ◌++◌, cond, sym, ap, ◌�
 use Rattle.std.proofs.lemmas.List.{take_all}
 use Rattle.cep_rule.specs.Patterns.{PremiseTree, premise_of}
 use Rattle.cep_rule.specs.Instances.{full_instances}
-use Rattle.cep_step.proofs.Premises.{linear_kept_among, nothing_more, linear_kept_next, more_behind, premise_within}
+use Rattle.cep_step.proofs.Ready.{linear_kept_among, nothing_more, linear_kept_next, more_behind, premise_within}
 use Rattle.cep_step.proofs.sides.push_kept.Goals as goal
 
 pub loop-i-init : goal.loop-i-init

@@ -2,7 +2,7 @@ use Rattle.std.proofs.Common.{List, [], ◌∷◌, ◌++◌, cond, ap, ◌∙◌
 use Rattle.std.proofs.lemmas.List.{take_all}
 use Rattle.cep_rule.specs.Patterns.{PremiseTree, premise_of}
 use Rattle.cep_rule.specs.Instances.{full_instances}
-use Rattle.cep_step.proofs.Premises.{linear_among, linear_next, more_behind, premise_within}
+use Rattle.cep_step.proofs.Ready.{linear_among, linear_next, more_behind, premise_within}
 use Rattle.cep_step.proofs.sides.taken_atoms.Goals as goal
 
 pub push_if-requires : goal.push_if-requires

@@ -1,6 +1,6 @@
 use Rattle.std.proofs.Common.{◌≡◌, take}
 use Rattle.cep_rule.specs.Instances.{full_instances}
-use Rattle.cep_step.proofs.Premises.{linear_among}
+use Rattle.cep_step.proofs.Ready.{linear_among}
 use Rattle.cep_step.proofs.sides.taken_atoms.Given as goal
 
 abbrev pub invariant-loop-i : goal.invariant-loop-i

@@ -1,6 +1,6 @@
 use Rattle.std.proofs.Common.{ap, ◌∙◌}
 use Rattle.cep_term.specs.Multiset.{Multiset, difference_of}
-use Rattle.cep_step.proofs.Order.{taken_behind, room_for_gains}
+use Rattle.cep_step.proofs.Entries.{taken_behind, room_for_gains}
 use Rattle.cep_step.proofs.spot.edit.Goals as goal
 
 pub add_all-requires-clause-few : goal.add_all-requires-clause-few

@@ -1,7 +1,7 @@
 use Rattle.std.proofs.Common.{arith}
 use Rattle.cep_base.proofs.Lists.{holds_at}
 use Rattle.cep_term.specs.Tree.{atom_of, IsFit}
-use Rattle.cep_step.proofs.Weights.{nodes_next}
+use Rattle.cep_step.proofs.Ready.{nodes_next}
 use Rattle.cep_step.proofs.weighing.nodes_in.Goals as goal
 
 pub loop-i-preserved : goal.loop-i-preserved

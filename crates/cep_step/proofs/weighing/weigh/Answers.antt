@@ -5,9 +5,7 @@ use Rattle.cep_rule.specs.Instances.{full_instances}
 use Rattle.cep_rule.specs.Steps.{Spot}
 use Rattle.cep_step.specs.Passing.{IsFirstUnfit}
 use Rattle.cep_step.specs.Sizes.{IsBeyond}
-use Rattle.cep_step.proofs.Weights.{not_all_fit}
-use Rattle.cep_step.proofs.Ready.{exact_number, in_range}
-use Rattle.cep_step.proofs.Edits.{added_ground, taken_ground, can_weigh, taken_few, too_full, within}
+use Rattle.cep_step.proofs.Ready.{not_all_fit, exact_number, in_range, added_ground, taken_ground, can_weigh, taken_few, too_full, within}
 use Rattle.cep_step.proofs.weighing.weigh.Goals as goal
 
 pub returns-in-Some : goal.returns-in-Some

@@ -1,5 +1,5 @@
 use Rattle.std.proofs.Common.{arith}
-use Rattle.cep_step.proofs.Weights.{edit_copies, edit_nodes}
+use Rattle.cep_step.proofs.Ready.{edit_copies, edit_nodes}
 use Rattle.cep_step.proofs.weighing.weigh_edit.Goals as goal
 
 pub overflow_sub-copies : goal.overflow_sub-copies

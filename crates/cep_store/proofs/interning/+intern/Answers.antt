@@ -2,8 +2,7 @@ use Rattle.std.proofs.Common.{ℕ, ◌<◌, ◌^◌, List, [], ◌∷◌, ◌++�
 use Rattle.std.proofs.lemmas.Result.{on_ok_weaker}
 use Rattle.cep_term.specs.Tree.{trees_of}
 use Rattle.cep_store.specs.Keys.{terms_by}
-use Rattle.cep_store.proofs.Readings.{args_added}
-use Rattle.cep_store.proofs.Outcomes.{keys_after, front_after, term_after, only_after}
+use Rattle.cep_store.proofs.Additions.{args_added, keys_after, front_after, term_after, only_after}
 use Rattle.cep_store.proofs.interning.+intern.Goals as goal
 
 pub intern_args-returns-in_ok-push-in-Cons-clause-ids :

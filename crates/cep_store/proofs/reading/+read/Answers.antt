@@ -3,7 +3,7 @@ use Rattle.std.proofs.lemmas.Result.{IfOk-weaker}
 use Rattle.cep_term.specs.Tree.{trees_of, node}
 use Rattle.cep_store.specs.Held.{args_by}
 use Rattle.cep_store.specs.Keys.{terms_by}
-use Rattle.cep_store.proofs.Weights.{term_weight, args_weight, first_falls, others_fall, all_parts, args_read, held_parts, reads_held, parts_are_less}
+use Rattle.cep_store.proofs.Readers.{term_weight, args_weight, first_falls, others_fall, all_parts, args_read, held_parts, reads_held, parts_are_less}
 use Rattle.cep_store.proofs.reading.+read.Goals as goal
 
 pub read_args-read_term-requires : goal.read_args-read_term-requires

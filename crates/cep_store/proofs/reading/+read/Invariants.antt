@@ -1,4 +1,4 @@
-use Rattle.cep_store.proofs.Weights.{term_weight, args_weight}
+use Rattle.cep_store.proofs.Readers.{term_weight, args_weight}
 use Rattle.cep_store.proofs.reading.+read.Given as goal
 
 abbrev pub decreases-read_args : goal.decreases-read_args

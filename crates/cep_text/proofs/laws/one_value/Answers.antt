@@ -1,4 +1,4 @@
-use Rattle.cep_text.proofs.OneText.{one_ground_term, one_atom, one_offer, one_proof}
+use Rattle.cep_text.proofs.OfferTexts.{one_ground_term, one_atom, one_offer, one_proof}
 use Rattle.cep_text.proofs.laws.one_value.Goals as goal
 
 pub returns : goal.returns

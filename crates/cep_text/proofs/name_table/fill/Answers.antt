@@ -1,7 +1,6 @@
 use Rattle.std.proofs.Common.{◌≡◌, add-one, ◌∙◌, ap, sym, map, slice_get, Some}
 use Rattle.std.proofs.lemmas.List.{map-append}
-use Rattle.cep_text.proofs.Numbers.{item_name}
-use Rattle.cep_text.proofs.TableLemmas.{next_differs, take_next, none_seen}
+use Rattle.cep_text.proofs.TableLemmas.{item_name, next_differs, take_next, none_seen}
 use Rattle.cep_text.proofs.name_table.fill.Goals as goal
 
 pub push-requires : goal.push-requires

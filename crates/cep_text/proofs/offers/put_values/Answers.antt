@@ -1,4 +1,4 @@
-use Rattle.cep_text.proofs.Givens.{given_step, given_begun}
+use Rattle.cep_text.proofs.Nodes.{given_step, given_begun}
 use Rattle.cep_text.proofs.offers.put_values.Goals as goal
 
 pub returns-in_err-put_given-clause-err : goal.returns-in_err-put_given-clause-err

@@ -1,7 +1,7 @@
 use Rattle.std.proofs.Common.{◌∙◌, arith, refl}
 use Rattle.std.proofs.lemmas.Result.{err_from_is_err_and}
 use Rattle.cep_text.specs.Reading.{small_at}
-use Rattle.cep_text.proofs.Steps.{fails_first, givens_next, givens_end}
+use Rattle.cep_text.proofs.ValuesFound.{fails_first, givens_next, givens_end}
 use Rattle.cep_text.proofs.read_offers.givens.Goals as goal
 
 pub returns-in_err-value-clause-read : goal.returns-in_err-value-clause-read

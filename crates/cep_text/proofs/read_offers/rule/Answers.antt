@@ -1,7 +1,7 @@
 use Rattle.std.proofs.Common.{◌≡◌, ◌<◌, ◌≤◌, length, sym, arith, slice_get, Some}
 use Rattle.cep_base.specs.declared.limits.TheConstants.{MOST_RULES}
 use Rattle.cep_rule.specs.Program.{IsTypedRule}
-use Rattle.cep_text.proofs.Numbers.{number_within, all_at}
+use Rattle.cep_text.proofs.TableLemmas.{number_within, all_at}
 use Rattle.cep_text.proofs.read_offers.rule.Goals as goal
 
 pub get-requires : goal.get-requires

@@ -1,9 +1,8 @@
-use Rattle.cep_text.specs.Reading.{node_at}
+use Rattle.cep_text.specs.Reading.{node_at, proof_at, small_at}
 use Rattle.std.proofs.lemmas.Grind.{common_steps}
 use Rattle.std.proofs.Common.{◌≡◌, ◌-◌, suc, refl, arith}
 use Rattle.std.proofs.lemmas.Result.{err_from_is_err_and}
-use Rattle.cep_text.specs.Reading.{proof_at, small_at}
-use Rattle.cep_text.proofs.Steps.{fails_first, proof_zero, proof_more, proofs_zero, proofs_more}
+use Rattle.cep_text.proofs.ValuesFound.{fails_first, proof_zero, proof_more, proofs_zero, proofs_more}
 use Rattle.cep_text.proofs.read_proofs.+proof.Goals as goal
 
 pub proof-returns-then-height-eq0-clause-read : goal.proof-returns-then-height-eq0-clause-read

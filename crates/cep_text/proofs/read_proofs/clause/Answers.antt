@@ -2,8 +2,8 @@ use Rattle.std.proofs.Common.{◌≡◌, ◌≤◌, length, sym, arith, slice_ge
 use Rattle.cep_base.specs.declared.limits.TheConstants.{MOST_CLAUSES}
 use Rattle.cep_rule.specs.Patterns.{clause_of}
 use Rattle.cep_rule.specs.Program.{IsTypedClause}
-use Rattle.cep_text.proofs.Numbers.{all_at}
-use Rattle.cep_text.proofs.ClauseNumbers.{numbered_found}
+use Rattle.cep_text.proofs.TableLemmas.{all_at}
+use Rattle.cep_text.proofs.ProofsFound.{numbered_found}
 use Rattle.cep_text.proofs.read_proofs.clause.Goals as goal
 
 pub get-requires : goal.get-requires

@@ -1,5 +1,5 @@
 use Rattle.cep_rule.specs.Derivations.{proof_of}
-use Rattle.cep_text.proofs.ProofTexts.{proof_some, proof_none}
+use Rattle.cep_text.proofs.OfferTexts.{proof_some, proof_none}
 use Rattle.cep_text.proofs.read_proofs.read_proof.Goals as goal
 
 pub returns-in-Ok-clause-some : goal.returns-in-Ok-clause-some

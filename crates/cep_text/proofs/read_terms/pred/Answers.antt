@@ -1,6 +1,6 @@
 use Rattle.std.proofs.Common.{◌<◌, ◌≤◌, length, sym, arith}
 use Rattle.cep_base.specs.declared.limits.TheConstants.{MOST_PREDS}
-use Rattle.cep_text.proofs.Numbers.{number_within}
+use Rattle.cep_text.proofs.TableLemmas.{number_within}
 use Rattle.cep_text.proofs.read_terms.pred.Goals as goal
 
 pub get-requires : goal.get-requires

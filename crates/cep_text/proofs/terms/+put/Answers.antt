@@ -1,8 +1,7 @@
-use Rattle.std.proofs.Common.{arith}
+use Rattle.std.proofs.Common.{arith, sym, ap, ◌∙◌}
 use Rattle.std.proofs.lemmas.Grind.{common_steps}
-use Rattle.std.proofs.Common.{sym, ap, ◌∙◌}
 use Rattle.cep_term.specs.Tree.{tree_of, trees_of}
-use Rattle.cep_text.proofs.Fronts.{enclosed_begun}
+use Rattle.cep_text.proofs.Nodes.{enclosed_begun}
 use Rattle.cep_text.proofs.terms.+put.Goals as goal
 
 pub put_value-returns-in_err-put_args-in-Cons-clause-err : goal.put_value-returns-in_err-put_args-in-Cons-clause-err

@@ -1,6 +1,6 @@
 use Rattle.std.proofs.Common.{arith}
 use Rattle.std.proofs.lemmas.Grind.{common_steps}
-use Rattle.cep_text.proofs.Named.{atom_names}
+use Rattle.cep_text.proofs.Valued.{atom_names}
 use Rattle.cep_text.proofs.terms.put_atom.Goals as goal
 
 pub put_args-requires : goal.put_args-requires

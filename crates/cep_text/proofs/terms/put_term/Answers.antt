@@ -1,4 +1,4 @@
-use Rattle.cep_text.proofs.Named.{has_names}
+use Rattle.cep_text.proofs.Valued.{has_names}
 use Rattle.cep_text.proofs.terms.put_term.Goals as goal
 
 pub put_value-requires : goal.put_value-requires

@@ -1,9 +1,8 @@
-use Rattle.cep_text.specs.Reading.{argument_at, enclosed_at, inside_at}
+use Rattle.cep_text.specs.Reading.{argument_at, enclosed_at, inside_at, value_at}
 use Rattle.std.proofs.lemmas.Grind.{common_steps}
 use Rattle.std.proofs.Common.{◌≡◌, ◌-◌, suc, refl, arith}
 use Rattle.std.proofs.lemmas.Result.{err_from_is_err_and}
-use Rattle.cep_text.specs.Reading.{value_at}
-use Rattle.cep_text.proofs.Steps.{fails_first, value_zero, value_more, arguments_end, arguments_next}
+use Rattle.cep_text.proofs.ValuesFound.{fails_first, value_zero, value_more, arguments_end, arguments_next}
 use Rattle.cep_text.proofs.values.+value.Goals as goal
 
 pub value-returns-then-depth-eq0-clause-read : goal.value-returns-then-depth-eq0-clause-read

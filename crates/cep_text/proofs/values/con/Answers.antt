@@ -1,6 +1,6 @@
 use Rattle.std.proofs.Common.{◌<◌, ◌≤◌, length, sym, arith}
 use Rattle.cep_base.specs.declared.limits.TheConstants.{MOST_CONS}
-use Rattle.cep_text.proofs.Numbers.{number_within}
+use Rattle.cep_text.proofs.TableLemmas.{number_within}
 use Rattle.cep_text.proofs.values.con.Goals as goal
 
 pub get-con-requires : goal.get-con-requires

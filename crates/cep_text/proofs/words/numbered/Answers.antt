@@ -1,6 +1,6 @@
 use Rattle.std.proofs.Common.{◌≡◌, ◌≢◌, ℕ, ◌<◌, suc, sym, ap, ◌∙◌, arith}
 use Rattle.std.specs.Prelude.{decimal}
-use Rattle.cep_text.proofs.ClauseNumbers.{numbered_none, numbered_other, numbered_again}
+use Rattle.cep_text.proofs.ProofsFound.{numbered_none, numbered_other, numbered_again}
 use Rattle.cep_text.proofs.words.numbered.Goals as goal
 
 pub returns-in_err-plain : goal.returns-in_err-plain

@@ -3,7 +3,7 @@ use Rattle.std.specs.Prelude.{decimal}
 use Rattle.std.specs.Str.{IsAscii}
 use Rattle.std.proofs.lemmas.Fmt.{IsAscii-decimal, parse-decimal}
 use Rattle.std.proofs.lemmas.Str.{IsUtf8-from_ascii}
-use Rattle.cep_text.proofs.Numbers.{bytes_same}
+use Rattle.cep_text.proofs.TableLemmas.{bytes_same}
 use Rattle.cep_text.proofs.words.plain.Goals as goal
 
 not_same : (a b : List ℕ) → bytes_eq a b ≡ false → a ≡ b → ⊥

@@ -1,6 +1,6 @@
 use Rattle.std.proofs.lemmas.Bool.Decides.{Decides-eqb}
 use Rattle.std.proofs.lemmas.Slice.Eq.{strip_prefix_is}
-use Rattle.cep_text.proofs.Literals.{literal_is}
+use Rattle.cep_text.proofs.ValuesFound.{literal_is}
 use Rattle.cep_text.proofs.words.strip.Goals as goal
 
 pub returns-clause-read : goal.returns-clause-read

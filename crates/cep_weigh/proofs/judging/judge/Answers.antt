@@ -3,8 +3,8 @@ use mir.Syntax.{w64}
 use mir.Val.{SFits}
 use Rattle.cep_base.proofs.Lists.{some_same}
 use Rattle.cep_weigh.specs.Weights.{left_sum, right_sum, Wants}
-use Rattle.cep_weigh.proofs.Adding.{unwanted}
-use Rattle.cep_weigh.proofs.Holding.{kept_all}
+use Rattle.cep_weigh.proofs.Sums.{unwanted}
+use Rattle.cep_weigh.proofs.Factors.{kept_all}
 use Rattle.cep_weigh.proofs.judging.judge.Goals as goal
 
 pub returns-then-not-wants-clause-broken : goal.returns-then-not-wants-clause-broken

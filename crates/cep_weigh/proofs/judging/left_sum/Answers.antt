@@ -2,7 +2,7 @@ use Rattle.std.proofs.Common.{sym, ap, ◌∙◌, arith}
 use Rattle.std.proofs.lemmas.Int.{ints}
 use Rattle.std.proofs.lemmas.List.{take_all}
 use Rattle.cep_rule.specs.Patterns.{premise_of}
-use Rattle.cep_weigh.proofs.Adding.{added, used, added_next, used_is}
+use Rattle.cep_weigh.proofs.Sums.{added, used, added_next, used_is}
 use Rattle.cep_weigh.proofs.judging.left_sum.Goals as goal
 
 pub loop-i-preserved : goal.loop-i-preserved

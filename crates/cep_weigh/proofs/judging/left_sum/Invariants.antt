@@ -1,5 +1,5 @@
 use Rattle.std.proofs.Common.{◌≡◌, ◌*◌, take, pos, neg_ℤ, ◌≤ℤ◌}
-use Rattle.cep_weigh.proofs.Adding.{added, used}
+use Rattle.cep_weigh.proofs.Sums.{added, used}
 use Rattle.cep_weigh.proofs.judging.left_sum.Given as goal
 
 abbrev pub invariant-loop-i : goal.invariant-loop-i

@@ -3,7 +3,7 @@ use Rattle.std.proofs.lemmas.Int.{ints}
 use Rattle.std.proofs.lemmas.List.{take_all}
 use Rattle.cep_term.specs.Tree.{atom_of}
 use Rattle.cep_weigh.specs.Weights.{factor_of}
-use Rattle.cep_weigh.proofs.Adding.{added, added_next, made_is}
+use Rattle.cep_weigh.proofs.Sums.{added, added_next, made_is}
 use Rattle.cep_weigh.proofs.judging.right_sum.Goals as goal
 
 pub loop-i-preserved : goal.loop-i-preserved

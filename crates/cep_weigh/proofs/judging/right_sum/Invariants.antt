@@ -1,5 +1,5 @@
 use Rattle.std.proofs.Common.{◌≡◌, ◌*◌, take, pos, neg_ℤ, ◌≤ℤ◌}
-use Rattle.cep_weigh.proofs.Adding.{added}
+use Rattle.cep_weigh.proofs.Sums.{added}
 use Rattle.cep_weigh.specs.Weights.{factor_of}
 use Rattle.cep_weigh.proofs.judging.right_sum.Given as goal
 

@@ -1,5 +1,5 @@
 use Rattle.cep_weigh.proofs.Sums.{wants_sides}
-use Rattle.cep_weigh.proofs.Holding.{claims_hold}
+use Rattle.cep_weigh.proofs.Factors.{claims_hold}
 use Rattle.cep_weigh.proofs.laws.claims_hold_of_runs.Goals as goal
 
 pub returns-clause-kept : goal.returns-clause-kept

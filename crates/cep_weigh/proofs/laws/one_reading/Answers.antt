@@ -1,4 +1,4 @@
-use Rattle.cep_weigh.proofs.OneReading.{one_list, one_first, not_both}
+use Rattle.cep_weigh.proofs.Lined.{one_list, one_first, not_both}
 use Rattle.cep_weigh.proofs.laws.one_reading.Goals as goal
 
 pub returns-clause-claims : goal.returns-clause-claims

@@ -1,4 +1,4 @@
-use Rattle.cep_weigh.proofs.Runs.{step_weights}
+use Rattle.cep_weigh.proofs.Sums.{step_weights}
 use Rattle.cep_weigh.proofs.laws.steps_change_weights.Goals as goal
 
 pub returns : goal.returns

@@ -4,7 +4,7 @@ use Rattle.std.proofs.lemmas.Int.{to_z-of_z}
 use mir.Syntax.{w64}
 use mir.Val.{SFits}
 use Rattle.cep_weigh.specs.Weights.{IsFactor}
-use Rattle.cep_weigh.proofs.Numbers.{small}
+use Rattle.cep_weigh.proofs.Lined.{small}
 use Rattle.cep_weigh.proofs.words.factor_word.Goals as goal
 
 pub returns-else-is_factor : goal.returns-else-is_factor

@@ -7,7 +7,7 @@ use Rattle.std.proofs.lemmas.Slice.Eq.{bytes_eq-Decides}
 use Rattle.std.proofs.lemmas.Int.{to_z-of_z}
 use mir.Syntax.{w64}
 use mir.Val.{to_z, of_z}
-use Rattle.cep_weigh.proofs.Numbers.{small, fits}
+use Rattle.cep_weigh.proofs.Lined.{small, fits}
 use Rattle.cep_weigh.proofs.words.number_word.Goals as goal
 
 not_same : (a b : List ℕ) → bytes_eq a b ≡ false → a ≡ b → ⊥

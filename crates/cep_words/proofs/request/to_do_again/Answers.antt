@@ -2,7 +2,7 @@ use Rattle.std.proofs.Common.{◌≡◌, length, [], map, ap, ◌∙◌, ◌∷�
 use Rattle.std.proofs.lemmas.Grind.{common_steps}
 use Rattle.std.specs.Prelude.{string_bytes, codes}
 use Rattle.std.proofs.lemmas.Slice.Eq.{bytes_eq-Decides}
-use Rattle.cep_words.proofs.Giving.{four_items}
+use Rattle.cep_words.proofs.OneRequest.{four_items}
 use Rattle.cep_words.proofs.request.to_do_again.Goals as goal
 
 pub returns-in_ok-seed-in-len4 : goal.returns-in_ok-seed-in-len4

@@ -1,6 +1,6 @@
 use Rattle.std.proofs.Common.{◌≡◌, length, [], map, ap, ◌∙◌, ◌∷◌, sym, arith}
 use Rattle.std.specs.Prelude.{string_bytes}
-use Rattle.cep_words.proofs.Giving.{three_items, no_options}
+use Rattle.cep_words.proofs.OneRequest.{three_items, no_options}
 use Rattle.cep_words.proofs.request.to_examine.Goals as goal
 
 pub returns-in_ok-task-in-len3 : goal.returns-in_ok-task-in-len3

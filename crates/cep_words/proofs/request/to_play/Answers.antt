@@ -1,8 +1,7 @@
 use Rattle.std.proofs.Common.{map, ap, ◌∙◌, ◌∷◌, sym, drop, take, length, ◌-◌}
 use Rattle.std.specs.Prelude.{string_bytes}
 use Rattle.std.proofs.lemmas.Slice.Eq.{bytes_eq-Decides}
-use Rattle.cep_words.proofs.Giving.{two_items}
-use Rattle.cep_words.proofs.OneRequest.{unplayed}
+use Rattle.cep_words.proofs.OneRequest.{two_items, unplayed}
 use Rattle.cep_words.proofs.request.to_play.Goals as goal
 
 pub returns-then-eq : goal.returns-then-eq

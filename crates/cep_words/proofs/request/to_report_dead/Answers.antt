@@ -1,7 +1,7 @@
 use Rattle.std.proofs.Common.{◌≡◌, [], ◌∷◌, length, map, ap, ◌∙◌, sym, arith}
 use Rattle.std.specs.Prelude.{string_bytes, codes}
 use Rattle.std.proofs.lemmas.Slice.Eq.{bytes_eq-Decides}
-use Rattle.cep_words.proofs.Giving.{only_two}
+use Rattle.cep_words.proofs.OneRequest.{only_two}
 use Rattle.cep_words.proofs.request.to_report_dead.Goals as goal
 
 pub returns-in-len2 : goal.returns-in-len2

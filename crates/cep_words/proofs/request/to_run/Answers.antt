@@ -2,8 +2,7 @@ use Rattle.std.proofs.Common.{map, ap, ◌∙◌, ◌∷◌, sym, drop, take, le
 use Rattle.std.proofs.lemmas.Grind.{common_steps}
 use Rattle.std.specs.Prelude.{string_bytes, codes}
 use Rattle.std.proofs.lemmas.Slice.Eq.{bytes_eq-Decides}
-use Rattle.cep_words.proofs.Giving.{two_items}
-use Rattle.cep_words.proofs.OneRequest.{unrun}
+use Rattle.cep_words.proofs.OneRequest.{two_items, unrun}
 use Rattle.cep_words.proofs.request.to_run.Goals as goal
 
 pub returns-in-None : goal.returns-in-None

@@ -1,5 +1,5 @@
 use Rattle.cep_world.specs.World.{good_atom}
-use Rattle.cep_world.proofs.Repeats.{atom_next}
+use Rattle.cep_world.proofs.Separators.{atom_next}
 use Rattle.cep_world.proofs.pieces.put_goods.Goals as goal
 
 pub loop-i-preserved : goal.loop-i-preserved

@@ -1,6 +1,6 @@
 use Rattle.std.specs.Prelude.{codes, decimal}
 use Rattle.std.proofs.Common.{ℕ, ◌++◌}
-use Rattle.cep_world.proofs.Repeats.{texts_next}
+use Rattle.cep_world.proofs.Separators.{texts_next}
 use Rattle.cep_world.proofs.pieces.put_names.Goals as goal
 
 pub loop-i-preserved : goal.loop-i-preserved

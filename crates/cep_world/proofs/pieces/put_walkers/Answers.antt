@@ -1,5 +1,5 @@
 use Rattle.cep_world.specs.World.{walker_atoms}
-use Rattle.cep_world.proofs.Repeats.{atoms_next}
+use Rattle.cep_world.proofs.Separators.{atoms_next}
 use Rattle.cep_world.proofs.pieces.put_walkers.Goals as goal
 
 pub loop-i-preserved : goal.loop-i-preserved

@@ -1,6 +1,6 @@
 use Rattle.std.proofs.Common.{[], ◌∷◌, ◌++◌, arith}
 use Rattle.std.proofs.lemmas.Grind.{common_steps}
-use Rattle.cep_graph.proofs.Rows.{changed}
+use Rattle.cep_graph.proofs.Made.{changed}
 use Rattle.cep_graph.proofs.tokens.Tokens.add.Goals as goal
 
 pub returns : goal.returns

@@ -1,7 +1,7 @@
 use Rattle.std.proofs.Common.{List, length, sym, ap, ◌∙◌}
 use Rattle.std.specs.Prelude.{nat_lt}
 use Rattle.cep_graph.specs.declared.trace.Trace.{Trace}
-use Rattle.cep_graph.proofs.Rows.{is_queue}
+use Rattle.cep_graph.proofs.Made.{is_queue}
 use Rattle.cep_graph.proofs.tokens.Tokens.has.Goals as goal
 
 pub returns : goal.returns

@@ -3,7 +3,7 @@ use Rattle.std.proofs.lemmas.Grind.{common_steps}
 use Rattle.std.proofs.lemmas.List.{length-map}
 use Rattle.cep_term.specs.Tree.{atom_of}
 use Rattle.cep_graph.specs.Queues.{Queues, GetsId}
-use Rattle.cep_graph.proofs.Rows.{meets_new}
+use Rattle.cep_graph.proofs.Made.{meets_new}
 use Rattle.cep_graph.proofs.tokens.Tokens.id_of.Goals as goal
 
 pub invariant_of-self-in_err-push : goal.invariant_of-self-in_err-push

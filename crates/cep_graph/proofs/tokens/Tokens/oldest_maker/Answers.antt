@@ -3,7 +3,7 @@ use Rattle.std.specs.Prelude.{nat_lt}
 use Rattle.std.proofs.lemmas.Bool.{false≢true}
 use Rattle.std.proofs.lemmas.Bool.Decides.{nat_tests}
 use Rattle.cep_graph.specs.declared.trace.Trace.{Trace}
-use Rattle.cep_graph.proofs.Rows.{is_queue}
+use Rattle.cep_graph.proofs.Made.{is_queue}
 use Rattle.cep_graph.proofs.tokens.Tokens.oldest_maker.Goals as goal
 
 positive : (n : ℕ) → nat_lt 0 (suc n) ≡ true

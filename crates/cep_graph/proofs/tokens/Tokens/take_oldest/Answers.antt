@@ -1,6 +1,6 @@
 use Rattle.std.proofs.Common.{◌++◌, ap, ◌∙◌}
 use Rattle.std.specs.Option.{option_to_list}
-use Rattle.cep_graph.proofs.Rows.{is_queue, changed_back, none_left}
+use Rattle.cep_graph.proofs.Made.{is_queue, changed_back, none_left}
 use Rattle.cep_graph.proofs.tokens.Tokens.take_oldest.Goals as goal
 
 pub returns-clause-none : goal.returns-clause-none

@@ -2,7 +2,7 @@ use Rattle.std.proofs.Common.{subst}
 use Rattle.std.specs.Prelude.{IfSome, IsNone, ◌↔◌}
 use Rattle.cep_rule.specs.Stages.{IsAsked, IsQuiet}
 use Rattle.cep_machine.specs.Configuration.{Configuration, IsConfigurationOf}
-use Rattle.cep_machine.proofs.Asked.{asks, is_quiet}
+use Rattle.cep_machine.proofs.Ready.{asks, is_quiet}
 use Rattle.cep_machine.proofs.config.Config.asked.Goals as goal
 
 pub returns-clause-asked : goal.returns-clause-asked

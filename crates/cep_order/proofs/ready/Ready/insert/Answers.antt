@@ -1,7 +1,6 @@
 use Rattle.std.proofs.Common.{◌≡◌, ◌+◌, ◌/◌, ◌<◌, Bool, List, true, false, length, get_or, ap, ◌∙◌, arith, refl, length-set}
 use Rattle.std.proofs.lemmas.List.{get_or_read, get_or_default}
-use Rattle.cep_order.proofs.Flagging.{set_counts}
-use Rattle.cep_order.proofs.Trees.{counts_few, off_at_leaf, off_above, fewer, none_off}
+use Rattle.cep_order.proofs.Trees.{set_counts, counts_few, off_at_leaf, off_above, fewer, none_off}
 use Rattle.cep_order.proofs.ready.Ready.insert.Goals as goal
 
 pub loop-node-init : goal.loop-node-init

@@ -2,8 +2,7 @@ use Rattle.std.proofs.Common.{Bool, List, length, ap, sym, ◌∙◌, arith}
 use Rattle.std.proofs.lemmas.Nat.{pow_pos}
 use Rattle.std.proofs.lemmas.List.{get_or_read}
 use Rattle.cep_order.specs.Flags.{set_places}
-use Rattle.cep_order.proofs.Flagging.{as_many}
-use Rattle.cep_order.proofs.Trees.{root_counts}
+use Rattle.cep_order.proofs.Trees.{as_many, root_counts}
 use Rattle.cep_order.proofs.ready.Ready.len.Goals as goal
 
 pub index-requires : goal.index-requires

@@ -2,7 +2,7 @@ use Rattle.std.proofs.Common.{◌≡◌, ℕ, ◌+◌, ◌-◌, ◌*◌, ◌^◌
 use Rattle.std.specs.Prelude.{slice_get}
 use Rattle.cep_order.specs.Flags.{set_places, set_before}
 use Rattle.cep_order.specs.Counts.{IsTree, IsLeafOf}
-use Rattle.cep_order.proofs.Flagging.{as_many, place_found}
+use Rattle.cep_order.proofs.Trees.{as_many, place_found}
 use Rattle.cep_order.proofs.ready.Ready.nth.Goals as goal
 
 -- The leaf, and where its block begins.

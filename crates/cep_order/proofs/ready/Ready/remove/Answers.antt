@@ -1,7 +1,6 @@
 use Rattle.std.proofs.Common.{◌≡◌, ◌+◌, ◌-◌, ◌/◌, Bool, List, true, false, get_or, ap, ◌∙◌, arith, refl, length-set}
 use Rattle.std.proofs.lemmas.List.{get_or_read}
-use Rattle.cep_order.proofs.Flagging.{unset_counts, on_within}
-use Rattle.cep_order.proofs.Trees.{some_too_many, off_at_leaf, off_above, none_off}
+use Rattle.cep_order.proofs.Trees.{unset_counts, on_within, some_too_many, off_at_leaf, off_above, none_off}
 use Rattle.cep_order.proofs.ready.Ready.remove.Goals as goal
 
 pub loop-node-init : goal.loop-node-init

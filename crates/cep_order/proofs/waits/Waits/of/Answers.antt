@@ -5,7 +5,7 @@ use Rattle.cep_base.proofs.Lists.{all_weaker}
 use Rattle.cep_order.specs.declared.step_cause.StepCause.{StepCause}
 use Rattle.cep_order.specs.declared.waits.Link.{Link}
 use Rattle.cep_order.specs.Waits.{all_entries, AreLinksFor}
-use Rattle.cep_order.proofs.Linking.{no_links}
+use Rattle.cep_order.proofs.Releasing.{no_links}
 use Rattle.cep_order.proofs.waits.Waits.of.Goals as goal
 
 same_begins : (n : ℕ) (new old : List ℕ) → n ≡ length old → length new ≡ length old → take n (new ++ drop (length new) old) ≡ new

@@ -3,7 +3,7 @@ use Rattle.std.specs.Prelude.{slice_get}
 use Rattle.std.proofs.lemmas.List.{get_or_read, get_or_default, get_or-set_same}
 use Rattle.std.proofs.lemmas.Option.{slice_get-get_or}
 use Rattle.cep_order.specs.declared.waits.Link.{Link}
-use Rattle.cep_order.proofs.Flagging.{on_or_off}
+use Rattle.cep_order.proofs.Trees.{on_or_off}
 use Rattle.cep_order.proofs.Releasing.{releasing_begins, releasing_ends, waits_some, step_within, not_ready, released_ready, released_waiting}
 use Rattle.cep_order.proofs.waits.Waits.release.Goals as goal
 

@@ -1,10 +1,8 @@
-use Rattle.std.proofs.Common.{refl, rules, take}
+use Rattle.std.proofs.Common.{refl, rules, take, arith}
 use Rattle.cep_source.specs.Kept.{AreKinds}
-use Rattle.cep_source.proofs.Lookups.{taken}
+use Rattle.cep_source.proofs.Lookups.{taken, none_ruled}
 use Rattle.cep_source.proofs.Declaring.{none_named}
-use Rattle.cep_source.proofs.Numbering.{none_ruled}
 use Rattle.cep_source.proofs.gathering.Kinds.of_file.Goals as goal
-use Rattle.std.proofs.Common.{arith}
 use Rattle.std.proofs.lemmas.Grind.{common_steps}
 
 pub loop-item-init : goal.loop-item-init

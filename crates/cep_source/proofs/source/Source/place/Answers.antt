@@ -2,7 +2,7 @@ use Rattle.std.proofs.Common.{List, ◌≡◌, ◌∙◌, ℕ, ap, sym, Bor}
 use Rattle.cep_source.specs.Items.{Source}
 use Rattle.cep_source.specs.Spaces.{first_place}
 use Rattle.cep_base.specs.FirstNames.{under_name}
-use Rattle.cep_source.proofs.Gathered.{places_in, known_in}
+use Rattle.cep_source.proofs.Declaring.{places_in, known_in}
 use Rattle.cep_source.proofs.source.Source.place.Goals.{in-Sorts, in-Constructors, in-Predicates, in-Stages, in-Contexts, in-Rules}
 use Rattle.cep_source.proofs.source.Source.place.Goals as goal
 

@@ -4,8 +4,7 @@ use Rattle.cep_source.specs.declared.space.Space.TheVariants as space
 use Rattle.cep_source.specs.Items.{Source}
 use Rattle.cep_source.specs.Spaces.{IsTwice}
 use Rattle.cep_source.specs.Kept.{source_of}
-use Rattle.cep_source.proofs.Gathered.{known_in}
-use Rattle.cep_source.proofs.Twice.{first_twice}
+use Rattle.cep_source.proofs.Declaring.{known_in, first_twice}
 use Rattle.cep_source.proofs.source.Source.twice.Goals as goal
 
 pub returns : goal.returns

@@ -2,7 +2,7 @@ use Rattle.std.proofs.Common.{ap, ◌∙◌}
 use Rattle.cep_term.specs.Tree.{atom_of}
 use Rattle.cep_step.specs.declared.size.Size.{Size}
 use Rattle.cep_step.specs.Sizes.{one_more}
-use Rattle.cep_step.proofs.SizesOf.{instance_nodes, instance_levels}
+use Rattle.cep_step.proofs.Ready.{instance_nodes, instance_levels}
 use Rattle.cep_step.proofs.measured.Measured.size.Goals as goal
 
 pub returns-clause-nodes : goal.returns-clause-nodes

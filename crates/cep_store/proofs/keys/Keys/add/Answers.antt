@@ -1,4 +1,4 @@
-use Rattle.cep_store.proofs.Places.{apart_keys, takes_place}
+use Rattle.cep_store.proofs.Additions.{apart_keys, takes_place}
 use Rattle.cep_store.proofs.keys.Keys.add.Goals as goal
 
 pub returns-in_err-id-clause-apart : goal.returns-in_err-id-clause-apart

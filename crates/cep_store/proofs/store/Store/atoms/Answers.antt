@@ -1,6 +1,6 @@
 use Rattle.std.proofs.Common.{subst}
 use Rattle.cep_store.specs.Held.{AreIds}
-use Rattle.cep_store.proofs.Differing.{are_ids}
+use Rattle.cep_store.proofs.Readers.{are_ids}
 use Rattle.cep_store.proofs.store.Store.atoms.Goals as goal
 
 pub returns-clause-ids : goal.returns-clause-ids

@@ -1,8 +1,7 @@
 use Rattle.std.proofs.Common.{◌<◌, ◌≤◌, length, Some, None, arith}
 use Rattle.cep_base.specs.declared.limits.TheConstants.{MOST_STAGES}
 use Rattle.cep_base.specs.FirstNames.{names_among}
-use Rattle.cep_text.proofs.Numbers.{number_within}
-use Rattle.cep_text.proofs.StageLemmas.{stage_number, stage_found, no_stage}
+use Rattle.cep_text.proofs.TableLemmas.{number_within, stage_number, stage_found, no_stage}
 use Rattle.cep_text.proofs.vocabulary.Vocabulary.stage.Goals as goal
 
 pub overflow_cast-result : goal.overflow_cast-result

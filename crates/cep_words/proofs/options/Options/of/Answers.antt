@@ -1,7 +1,7 @@
 use Rattle.std.proofs.Common.{◌+◌, sym, subst, map, take, drop, ◌∙◌}
 use Rattle.std.specs.Prelude.{string_bytes}
 use Rattle.cep_words.specs.Words.{Give}
-use Rattle.cep_words.proofs.Giving.{AreRead, one_more_read, one_unread, one_twice, up_to, around, is_among, none_matches}
+use Rattle.cep_words.proofs.OneRequest.{AreRead, one_more_read, one_unread, one_twice, up_to, around, is_among, none_matches}
 use Rattle.cep_words.proofs.options.Options.of.Goals as goal
 
 pub returns-in_err-option : goal.returns-in_err-option

@@ -1,6 +1,6 @@
 use Rattle.std.proofs.Common.{take, map}
 use Rattle.std.specs.Prelude.{string_bytes}
-use Rattle.cep_words.proofs.Giving.{AreRead}
+use Rattle.cep_words.proofs.OneRequest.{AreRead}
 use Rattle.cep_words.proofs.options.Options.of.Given as goal
 
 abbrev pub invariant-loop-word : goal.invariant-loop-word

@@ -2,7 +2,7 @@ use Rattle.std.proofs.Common.{map}
 use Rattle.std.specs.Prelude.{string_bytes}
 use Rattle.cep_words.specs.Words.{AskFor}
 use Rattle.cep_words.specs.Requests.{request_of}
-use Rattle.cep_words.proofs.Giving.{no_form, none_weaker}
+use Rattle.cep_words.proofs.OneRequest.{no_form, none_weaker}
 use Rattle.cep_words.proofs.request.Request.of.Goals as goal
 
 pub returns-in-None-to_report_dead : goal.returns-in-None-to_report_dead
