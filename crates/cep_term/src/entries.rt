@@ -1,6 +1,6 @@
 // One list of entries with increasing atoms.
 ghost use Rattle.std.specs.Prelude.{◌≡◌, ◌-◌, ◌^◌, ◌<◌, ◌≤◌, ◌↔◌, length, IfOk, IfErr, OnOk, OnErr, IsErr, IsTrue};
-ghost use Rattle.std.specs.List.{AllByRecursion};
+ghost use Rattle.std.specs.List.{AllByRecursion, insert};
 ghost use Rattle.cep_term.specs.Tree.{atom_of};
 ghost use Rattle.cep_term.specs.Multiset.{IsEntry};
 ghost use Rattle.cep_term.specs.Entries.{entries_of, IsRising, find_count, one_more_among, one_less_among};
@@ -10,6 +10,7 @@ use crate::comparing::order;
 use crate::copying::copy;
 use crate::term::Atom;
 use std::alloc::{AllocError, Global};
+use std::cmp::Ordering;
 
 /// The answer of `Bag::take` if the bag has no copy of the atom.
 #[derive(Clone, Copy, PartialEq, Eq)]
@@ -31,24 +32,14 @@ pub fn place(entries: &[Entry], a: &Atom) -> Result<usize, usize>
     ensures found_in_range { IfOk result (λ at. at < length entries.now) }
     ensures absent_in_range { IfErr result (λ at. at ≤ length entries.now) }
 {
-    if goes_last(entries, a) {
-        Err(entries.len())
-    } else {
-        entries.binary_search_by(|entry| order(&entry.atom, a))
+    let Some(last) = entries.last() else {
+        return Err(0);
+    };
+    match order(&last.atom, a) {
+        Ordering::Less => Err(entries.len()),
+        Ordering::Equal => Ok(entries.len() - 1),
+        Ordering::Greater => entries.binary_search_by(|entry| order(&entry.atom, a)),
     }
-}
-
-// Whether all of the entries are of lesser atoms, as the last one tells. Of atoms that come in
-// order one comparison tells it.
-fn goes_last(entries: &[Entry], a: &Atom) -> bool
-    requires { IsRising (entries_of entries.now) }
-    ensures { IsTrue result
-        → IsGapFor (entries_of entries.now) (atom_of a.now) (length entries.now) }
-{
-    if entries.is_empty() {
-        return true;
-    }
-    order(&entries[entries.len() - 1].atom, a).is_lt()
 }
 
 // How many copies of the atom there are.
@@ -61,6 +52,21 @@ pub fn count_among(entries: &[Entry], a: &Atom) -> u32
         Ok(at) => entries[at].count,
         Err(_) => 0,
     }
+}
+
+// Puts an entry into its place among others, which for atoms that come in order is after the last one.
+#[tactic(auto, using(std::proofs::lemmas::List::Edits::insert_end))]
+fn insert(entries: &mut Vec<Entry>, at: usize, entry: Entry) -> Result<(), AllocError>
+    requires { at ≤ length entries.old.items }
+    ensures ok { OnOk result (entries.new.items ≡ insert entries.old.items at entry) }
+    ensures err { OnErr result (entries.new.items ≡ entries.old.items) }
+{
+    if at == entries.len() {
+        entries.push(entry)?;
+    } else {
+        entries.insert(at, entry)?;
+    }
+    Ok(())
 }
 
 // Adds one copy of the atom.
@@ -80,8 +86,7 @@ pub fn add_copy(alloc: Global, entries: &mut Vec<Entry>, a: &Atom) -> Result<(),
         }
         Err(at) => {
             let atom = Box::new(alloc, copy(alloc, a)?)?;
-            entries.insert(at, Entry { atom, count: 1 })?;
-            Ok(())
+            insert(entries, at, Entry { atom, count: 1 })
         }
     }
 }
@@ -103,8 +108,7 @@ pub fn put_copy(alloc: Global, entries: &mut Vec<Entry>, a: Atom) -> Result<(), 
         }
         Err(at) => {
             let atom = Box::new(alloc, a)?;
-            entries.insert(at, Entry { atom, count: 1 })?;
-            Ok(())
+            insert(entries, at, Entry { atom, count: 1 })
         }
     }
 }
