@@ -21,7 +21,7 @@ use crate::premises::first_failure;
 use cep_base::Steps;
 use cep_log::{LogMid, LogStep};
 use cep_rule::laws::types_are_lawful;
-use cep_rule::{Program, Rule, Terms, gained};
+use cep_rule::{Program, Rule, Terms, gained_unless_all};
 use cep_scratch::applies_any;
 use cep_step::{Spot, Weighed};
 use cep_term::laws::bags_are_lawful;
@@ -104,7 +104,7 @@ fn not_contained(
     bags_are_lawful();
     let needed = needed_atoms(alloc, rule, values)?;
     let signature = &program.parts().signature;
-    let left = gained(alloc, signature, &Bag::new(alloc), &needed)?;
+    let left = gained_unless_all(alloc, signature, &Bag::new(alloc), &needed)?.unwrap_or(needed);
     let left = Bag::of(alloc, left)?;
     match first_lack(&left, state) {
         None => Ok(None),

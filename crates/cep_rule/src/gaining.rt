@@ -1,4 +1,4 @@
-ghost use Rattle.std.specs.Prelude.{◌≡◌, ◌+◌, ◌-◌, ◌^◌, ◌<◌, ◌≤◌, ◌&&◌, nat_lt, true, IfOk, OnOk};
+ghost use Rattle.std.specs.Prelude.{◌≡◌, ◌+◌, ◌-◌, ◌^◌, ◌<◌, ◌≤◌, ◌&&◌, nat_lt, true, false, unwrap_or, map, IfOk, OnOk};
 ghost use Rattle.cep_term.specs.Tree.{AtomTree, atom_of, IsGroundAtom};
 ghost use Rattle.cep_term.specs.Multiset.{count_of, with_one, sum_of, copies_in, gained};
 ghost use Rattle.std.specs.List.{AllByRecursion};
@@ -41,6 +41,35 @@ pub fn gained(
         }
     }
     Ok(list)
+}
+
+/// The same, or `None` where no fact is among the atoms: then the state gains all of them, and none is
+/// copied. Only out of memory is refused.
+pub fn gained_unless_all(
+    alloc: Global,
+    signature: &Signature,
+    state: &Bag,
+    atoms: &AtomList,
+) -> Result<Option<AtomList>, AllocError>
+    requires { AllByRecursion IsGroundAtom atoms.now }
+    ensures { IfOk result (λ list. unwrap_or list atoms.now
+        ≡ gained (is_fact signature.now) state.now atoms.now) }
+{
+    if !has_fact(signature, atoms.as_slice()) {
+        return Ok(None);
+    }
+    Ok(Some(gained(alloc, signature, state, atoms)?))
+}
+
+// Whether one of the atoms is a fact.
+fn has_fact(signature: &Signature, atoms: &[Atom]) -> bool
+    ensures { result ≡ false
+        → AllByRecursion (λ a. is_fact signature.now a ≡ false) (map atom_of atoms.now) }
+{
+    match atoms {
+        [] => false,
+        [a, rest @ ..] => is_fact(signature, a) || has_fact(signature, rest),
+    }
 }
 
 // Whether the atom is a fact that is in either multiset.

@@ -27,7 +27,7 @@ mod values;
 pub use cep_term::{AtomList, Terms};
 pub use clause::{Clause, Clauses};
 pub use derivation::{Derivation, Derivations};
-pub use gaining::{gained, is_fact};
+pub use gaining::{gained, gained_unless_all, is_fact};
 pub use instances::instance;
 pub use matcher::Matcher;
 pub use offer::{Offer, order_offer};

@@ -339,7 +339,10 @@ module _ (laws : StepLaws) (program : Parts) (rule : Rule) (values : List Tree) 
   pub taken_few : (taken : List AtomTree) → taken ≡ taken_by program.signature rule values → length taken ≤ MOST_PREMISES
   taken_few taken same = rw same (few_taken laws program rule values spot is)
 
-  module _ (taken added gains : List AtomTree) (taken_is : taken ≡ taken_by program.signature rule values) (added_is : added ≡ added_by program.signature rule values) (gains_are : gains ≡ gained is_one_fact spot.state added) (fit : MakesFit rule values) where
+  module _ (taken added : List AtomTree) (listed : Option (List AtomTree)) (taken_is : taken ≡ taken_by program.signature rule values) (added_is : added ≡ added_by program.signature rule values) (gains_are : unwrap_or listed added ≡ gained is_one_fact spot.state added) (fit : MakesFit rule values) where
+    abbrev gains : List AtomTree
+    gains = unwrap_or listed added
+
     abbrev pub new_state : Multiset
     new_state = sum_of (difference_of spot.state (gathered taken)) (gathered gains)
 
@@ -384,7 +387,7 @@ module _ (laws : StepLaws) (program : Parts) (rule : Rule) (values : List Tree) 
     too_full number full = ((fit, (new_state, step, not_fitting new_state number full)), λ small. (new_state, step, full))
 
     pub within : (bag : Multiset) (nodes stage : ℕ) → bag ≡ gathered taken → stage ≡ stage_after rule spot.stage → Fits new_state × (nodes ≡ nodes_in_all new_state)
-        → IsWeighed program rule values spot (Within (record { taken = bag; added = added; gains = gains; nodes = nodes; stage = stage }))
+        → IsWeighed program rule values spot (Within (record { taken = bag; added = added; gains = listed; nodes = nodes; stage = stage }))
     within bag nodes stage same next weight =
         let in_range : stage < length program.stages = rw next (stage_in_range (length program.stages) spot.stage rule.next is.here.stage is.next) in
         rw same (record {

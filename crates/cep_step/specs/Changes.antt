@@ -1,5 +1,5 @@
 -- What steps do, and what weighing one comes to.
-use Rattle.std.specs.Prelude.{◌≡◌, ℕ, ◌<◌, true, List, Some, slice_get}
+use Rattle.std.specs.Prelude.{◌≡◌, ℕ, ◌<◌, true, List, Some, slice_get, unwrap_or}
 use Rattle.std.specs.List.{AllByRecursion}
 use Rattle.cep_base.specs.declared.limits.TheConstants.{MOST_STAGES}
 use Rattle.cep_term.specs.Tree.{Tree, AtomTree, IsGroundAtom}
@@ -19,9 +19,13 @@ use Rattle.cep_step.specs.declared.weighing.Weighed.TheVariants as weighed
 use Rattle.cep_step.specs.Passing.{Passes, IsExcess}
 use Rattle.cep_step.specs.Spots.{IsSpotOf}
 
+-- the atoms that the state gains by a change: those that are listed, or else all that it adds
+abbrev pub gains_of : Change → List AtomTree
+gains_of change = unwrap_or change.gains change.added
+
 -- the state after a change: the old one without what is taken, and with what is gained
 abbrev pub edited : Multiset → Change → Multiset
-edited state change = sum_of (difference_of state change.taken) (gathered change.gains)
+edited state change = sum_of (difference_of state change.taken) (gathered (gains_of change))
 
 -- the spot after a change
 abbrev pub changed : Spot → Change → Spot
@@ -31,7 +35,7 @@ changed spot change = record { stage = change.stage; state = edited spot.state c
 -- after it fits, with its nodes counted.
 pub record CanChange (spot : Spot) (change : Change) : Type 0 where
   pub there : IsContained change.taken spot.state
-  pub ground : AllByRecursion IsGroundAtom change.gains
+  pub ground : AllByRecursion IsGroundAtom (gains_of change)
   pub fits : Fits (edited spot.state change)
   pub nodes : change.nodes ≡ nodes_in_all (edited spot.state change)
   pub low : change.stage < MOST_STAGES
@@ -51,7 +55,7 @@ pub record IsChangeOf (program : Parts) (rule : Rule) (values : List Tree) (spot
     (change : Change) : Type 0 where
   pub taken : change.taken ≡ gathered (taken_by program.signature rule values)
   pub added : change.added ≡ added_by program.signature rule values
-  pub gains : change.gains
+  pub gains : gains_of change
       ≡ gained (is_fact program.signature) (difference_of spot.state change.taken) change.added
   pub no_facts : (a : AtomTree) → is_fact program.signature a ≡ true → count_of change.taken a ≡ 0
   pub after : edited spot.state change

@@ -1,3 +1,6 @@
+ghost use Rattle.std.specs.Prelude.{◌≡◌, unwrap_or};
+ghost use Rattle.cep_step.specs.Changes.{gains_of};
+
 use cep_rule::AtomList;
 use cep_term::Bag;
 
@@ -5,12 +8,32 @@ use cep_term::Bag;
 /// which are the right atoms in written order and then the linear premises that are kept; those of
 /// them that the state gains, since a fact that is there is not added again; how many nodes the
 /// state after it has; and the stage after it. A step is Ceptre's; that kept premises are taken and
-/// added is this profile's way to say it.
+/// added is this profile's way to say it. Where the state gains all that is added, `gains` is `None`,
+/// and nothing is listed twice.
 #[derive(Drop)]
 pub struct Change {
     pub taken: Bag,
     pub added: AtomList,
-    pub gains: AtomList,
+    pub gains: Option<AtomList>,
     pub nodes: u64,
     pub stage: u32,
+}
+
+impl Change {
+    // The atoms that the state gains.
+    pub(crate) fn gains(&self) -> &AtomList
+        ensures { result.now ≡ gains_of self.now }
+    {
+        listed_or(&self.gains, &self.added)
+    }
+}
+
+// The atoms that are listed, or else all.
+pub(crate) fn listed_or<'a>(listed: &'a Option<AtomList>, all: &'a AtomList) -> &'a AtomList
+    ensures { result.now ≡ unwrap_or listed.now all.now }
+{
+    match listed {
+        Some(atoms) => atoms,
+        None => all,
+    }
 }

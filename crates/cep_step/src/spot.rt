@@ -6,7 +6,7 @@ ghost use Rattle.cep_term.specs.Multiset.{IsContained};
 ghost use Rattle.cep_rule.specs.State.{Fits};
 ghost use Rattle.cep_rule.specs.Steps.{start_spot};
 ghost use Rattle.cep_step.specs.Spots.{IsSpotOf};
-ghost use Rattle.cep_step.specs.Changes.{CanStep, CanChange, IsWeighed, changed, edited};
+ghost use Rattle.cep_step.specs.Changes.{CanStep, CanChange, IsWeighed, changed, edited, gains_of};
 
 use crate::change::Change;
 use crate::counting::nodes_in_state;
@@ -115,7 +115,7 @@ impl Spot {
 fn edit(state: &mut Bag, change: &Change) -> Result<(), AllocError>
     requires fits { Fits state.old }
     requires there { IsContained change.now.taken state.old }
-    requires ground { AllByRecursion IsGroundAtom change.now.gains }
+    requires ground { AllByRecursion IsGroundAtom (gains_of change.now) }
     requires after { Fits (edited state.old change.now) }
     ensures { OnOk result (state.new ≡ edited state.old change.now) }
 {
@@ -123,7 +123,7 @@ fn edit(state: &mut Bag, change: &Change) -> Result<(), AllocError>
     // By these calls the proof learns that both are multisets of ground atoms.
     let _ = state.copies();
     let _ = change.taken.copies();
-    state.add_all(&change.gains)?;
+    state.add_all(change.gains())?;
     state.take_all(&change.taken);
     Ok(())
 }

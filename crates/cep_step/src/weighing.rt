@@ -7,14 +7,14 @@ ghost use Rattle.cep_term.specs.Multiset.{gathered, sum_of, difference_of, nodes
 ghost use Rattle.cep_step.specs.Changes.{IsWeighed};
 ghost use Rattle.cep_step.specs.Weighing.{IsReady, CanWeigh, IsWeight};
 
-use crate::change::Change;
+use crate::change::{Change, listed_or};
 use crate::fitting::first_too_large;
 use crate::laws::steps_are_lawful;
 use crate::limit::Limit;
 use crate::measured::Measured;
 use crate::sides::{added_atoms, taken_atoms};
 use cep_base::limits::{MOST_COPIES, MOST_STATE_NODES};
-use cep_rule::{AtomList, Parts, Rule, Terms, gained};
+use cep_rule::{AtomList, Parts, Rule, Terms, gained_unless_all};
 use cep_term::laws::bags_are_lawful;
 use cep_term::{Bag, nodes};
 use std::alloc::{AllocError, Global};
@@ -63,8 +63,8 @@ pub(crate) fn weigh(
     }
     let taken = taken_atoms(alloc, signature, rule, values)?;
     let added = added_atoms(alloc, signature, rule, values)?;
-    let gains = gained(alloc, signature, state, &added)?;
-    match weigh_edit(state, nodes, &taken, &gains) {
+    let gains = gained_unless_all(alloc, signature, state, &added)?;
+    match weigh_edit(state, nodes, &taken, listed_or(&gains, &added)) {
         Weight::TooFull(number) => Ok(Weighed::Passes(Limit::State, number)),
         Weight::Fits(nodes) => Ok(Weighed::Within(Change {
             taken: Bag::of(alloc, taken)?,

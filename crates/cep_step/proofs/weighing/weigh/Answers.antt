@@ -19,8 +19,8 @@ returns-in-Some c =
 pub weigh_edit-requires-clause-can : goal.weigh_edit-requires-clause-can
 weigh_edit-requires-clause-can c =
     let spot : Spot = record { stage = c.args.stage; state = c.args.state.now } in
-    can_weigh c.steps_are_lawful.ensures c.args.parts.now c.args.rule.now c.args.values.now spot c.requires.ready c.in_ok-taken.taken c.in_ok-added.added c.in_ok-gains.gains c.in_ok-taken.ensures c.in_ok-added.ensures c.in_ok-gains.ensures
-    (subst (λ (values : List Tree). AllByRecursion IsFit (full_instances values c.args.rule.now.right)) c.in_ok-new.ensures c.in_default.ensures)
+    rw c.listed_or.ensures (can_weigh c.steps_are_lawful.ensures c.args.parts.now c.args.rule.now c.args.values.now spot c.requires.ready c.in_ok-taken.taken c.in_ok-added.added c.in_ok-gains.gains c.in_ok-taken.ensures c.in_ok-added.ensures c.in_ok-gains.ensures
+    (subst (λ (values : List Tree). AllByRecursion IsFit (full_instances values c.args.rule.now.right)) c.in_ok-new.ensures c.in_default.ensures))
 
 pub of-requires-clause-few : goal.of-requires-clause-few
 of-requires-clause-few c =
@@ -32,14 +32,14 @@ returns-in-TooFull c =
     let spot : Spot = record { stage = c.args.stage; state = c.args.state.now } in
     too_full c.steps_are_lawful.ensures c.args.parts.now c.args.rule.now c.args.values.now spot c.requires.ready c.in_ok-taken.taken c.in_ok-added.added c.in_ok-gains.gains c.in_ok-taken.ensures c.in_ok-added.ensures c.in_ok-gains.ensures
     (subst (λ (values : List Tree). AllByRecursion IsFit (full_instances values c.args.rule.now.right)) c.in_ok-new.ensures c.in_default.ensures)
-    c.in-TooFull.number c.in-TooFull.ensures
+    c.in-TooFull.number (rw (← c.listed_or.ensures) c.in-TooFull.ensures)
 
 pub returns-in_ok-of-in-Fits : goal.returns-in_ok-of-in-Fits
 returns-in_ok-of-in-Fits c =
     let spot : Spot = record { stage = c.args.stage; state = c.args.state.now } in
     within c.steps_are_lawful.ensures c.args.parts.now c.args.rule.now c.args.values.now spot c.requires.ready c.in_ok-taken.taken c.in_ok-added.added c.in_ok-gains.gains c.in_ok-taken.ensures c.in_ok-added.ensures c.in_ok-gains.ensures
     (subst (λ (values : List Tree). AllByRecursion IsFit (full_instances values c.args.rule.now.right)) c.in_ok-new.ensures c.in_default.ensures)
-    c.in_ok-of-in-Fits.field-0 c.in-Fits.nodes c.unwrap_or.result c.in_ok-of-in-Fits.ensures c.unwrap_or.ensures c.in-Fits.ensures
+    c.in_ok-of-in-Fits.field-0 c.in-Fits.nodes c.unwrap_or.result c.in_ok-of-in-Fits.ensures c.unwrap_or.ensures (rw (← c.listed_or.ensures) c.in-Fits.ensures)
 
 pub taken_atoms-requires : goal.taken_atoms-requires
 taken_atoms-requires c = in_range c.steps_are_lawful.ensures c.args.parts.now.signature c.args.rule.now.kinds c.args.values.now c.requires.ready.are _ c.requires.ready.typed.premises
@@ -50,8 +50,8 @@ added_atoms-requires-clause-right c = in_range c.steps_are_lawful.ensures c.args
 pub added_atoms-requires-clause-needed : goal.added_atoms-requires-clause-needed
 added_atoms-requires-clause-needed c = in_range c.steps_are_lawful.ensures c.args.parts.now.signature c.args.rule.now.kinds c.args.values.now c.requires.ready.are _ c.requires.ready.typed.premises
 
-pub gained-requires : goal.gained-requires
-gained-requires c =
+pub gained_unless_all-requires : goal.gained_unless_all-requires
+gained_unless_all-requires c =
     let spot : Spot = record { stage = c.args.stage; state = c.args.state.now } in
     added_ground c.steps_are_lawful.ensures c.args.parts.now c.args.rule.now c.args.values.now spot c.requires.ready c.in_ok-added.added c.in_ok-added.ensures
 
