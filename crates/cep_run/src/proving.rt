@@ -43,8 +43,11 @@ pub fn prove_backs<L: Ledger>(
     types_are_lawful();
     more_positions_known_are_no_worse();
     let rule = program.parts().rules.get(offer.rule as usize);
-    let known = known_values(alloc, offer.values.as_slice())?;
     let mut proofs = Proofs::new(alloc);
+    if rule.backs.is_empty() {
+        return Ok(proofs);
+    }
+    let known = known_values(alloc, offer.values.as_slice())?;
     for i in 0..rule.backs.len() {
         let premise = rule.backs.get(i);
         proofs.push(prove(alloc, program, premise, &known, height, steps)?)?;

@@ -1,4 +1,4 @@
-use Rattle.std.proofs.Common.{◌≡◌, ◌+◌, List, length, take, subst, sym, ap, ◌∙◌, arith}
+use Rattle.std.proofs.Common.{◌≡◌, ◌+◌, List, [], length, take, subst, sym, ap, ◌∙◌, arith}
 use Rattle.std.proofs.lemmas.List.{take_all}
 use Rattle.std.specs.Prelude.{slice_get, Some}
 use Rattle.std.specs.List.{AllByRecursion}
@@ -95,3 +95,22 @@ returns-clause-ticked g c = λ rule is.
     let ticked = c.loop-i.invariant.ticked in
     let all : c.loop-i.steps ≡ c.args.steps.now + length c.get-rule.result.now.backs = omega (arith, end, done, ticked) in
     subst (λ (one : Rule). c.loop-i.steps ≡ c.args.steps.now + length one.backs) (some_same c.get-rule.result.now rule (sym numbered ∙ is)) all
+
+pub returns-then-is_empty-clause-proved : goal.returns-then-is_empty-clause-proved
+returns-then-is_empty-clause-proved g c =
+    let program = c.args.program.now in
+    let offer = c.args.offer.now in
+    let rule = c.get-rule.result.now in
+    record {
+      rule = rule;
+      numbered = subst (λ (p : Parts). slice_get p.rules offer.rule ≡ Some rule) c.parts.ensures.parts c.get-rule.ensures;
+      proved = subst (λ backs. AreProofs program c.args.height c.new-proofs.result (full_instances offer.values backs)) (sym (c.is_empty.ensures.0 c.if-is_empty.true)) (subst (λ proofs. AreProofs program c.args.height proofs []) (sym c.new-proofs.ensures) tt);
+    }
+
+pub returns-then-is_empty-clause-ticked : goal.returns-then-is_empty-clause-ticked
+returns-then-is_empty-clause-ticked g c = λ rule is.
+    let program = c.args.program.now in
+    let numbered : slice_get program.rules c.args.offer.now.rule ≡ Some c.get-rule.result.now = subst (λ (p : Parts). slice_get p.rules c.args.offer.now.rule ≡ Some c.get-rule.result.now) c.parts.ensures.parts c.get-rule.ensures in
+    let none : c.get-rule.result.now.backs ≡ [] = c.is_empty.ensures.0 c.if-is_empty.true in
+    let same : c.get-rule.result.now ≡ rule = some_same c.get-rule.result.now rule (sym numbered ∙ is) in
+    omega (arith, ap (λ (one : Rule). length one.backs) same, ap length none)
