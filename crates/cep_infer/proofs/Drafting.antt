@@ -1,6 +1,6 @@
 -- What a text comes to: the first trace, and a sound draft or a refusal.
-use Rattle.std.proofs.Common.{◌≡◌, List, [], ◌∷◌, length, map, ap, sym, refl, ◌∙◌, subst}
-use Rattle.std.specs.Prelude.{Option, Some, Result, Ok, Err, IsErrAnd, MatchResult, slice_get}
+use Rattle.std.proofs.Common.{◌≡◌, List, [], ◌∷◌, length, map, ap, sym, refl, ◌∙◌, subst, arith}
+use Rattle.std.specs.Prelude.{Option, Some, Result, Ok, IsErrAnd, MatchResult, slice_get}
 use Rattle.std.specs.Option.{IsSome}
 use Rattle.cep_refusal.specs.declared.reason.Reason.TheVariants.{NoTrace}
 use Rattle.cep_refusal.specs.declared.fault.Fault.{Fault}
@@ -32,6 +32,4 @@ some_trace source (trace ∷ refs) found named all is = subst IsSome (sym is) re
 -- a sound draft is the answer, and so is the refusal that tells the first fault
 pub resolved : (source : Source) (found : Result Draft Fault) (answer : Result Draft Refusal) (IsTold : Fault → Refusal → Type 0) → ((fault : Fault) (refusal : Refusal) → IsTold fault refusal → Tells source.text fault refusal)
     → MatchResult found (IsSound source) (IsFirstFault source) → MatchResult found (λ draft. answer ≡ Ok draft) (λ fault. IsErrAnd answer (IsTold fault)) → IsResolved source answer
-resolved source (Ok draft) answer IsTold tells sound is = subst (IsResolved source) (sym is) sound
-resolved source (Err fault) (Ok draft) IsTold tells first told = absurd told
-resolved source (Err fault) (Err refusal) IsTold tells first told = record { fault = fault; first = first; told = tells fault refusal told }
+resolved source found answer IsTold tells sound is = grind arith

@@ -20,8 +20,7 @@ held_again true n there = let more = ltb-true 0 (min 1 n) there in omega (arith,
 held_again false n there = absurd cc
 
 held_first : (b : Bool) (n : ℕ) → (b && nat_lt 0 (held b n)) ≡ false → held b (n + 1) ≡ held b n + 1
-held_first true n none = let less = ltb-false 0 (min 1 n) none in omega (arith, less)
-held_first false n none = refl
+held_first b n none = grind (arith, ltb-false)
 
 module _ (laws : BagLaws) (test : AtomTree → Bool) where
   differs : (a x : AtomTree) (o : Ordering) → atom_cmp a x ≡ o → o ≢ Equal → a ≢ x
@@ -82,9 +81,7 @@ module _ (laws : BagLaws) (test : AtomTree → Bool) where
     ground = all_at IsGroundAtom atoms a all (k, within, at)
 
     taken : gathered (take (k + 1) atoms) ≡ with_one front a
-    taken =
-        ap gathered (take_more atoms k a within ∙ ap (λ x. take k atoms ++ x ∷ []) at)
-        ∙ same_gathered laws (a ∷ take k atoms) (take k atoms ++ a ∷ []) (IsPermutation-sym _ _ (IsPermutation-to_front (take k atoms) a)) (ground, all_taken IsGroundAtom atoms k all)
+    taken = rw (take_more atoms k a within, at, same_gathered laws (a ∷ take k atoms) (take k atoms ++ a ∷ []) (IsPermutation-sym _ _ (IsPermutation-to_front (take k atoms) a)) (ground, all_taken IsGroundAtom atoms k all))
 
     pub passed_over : (test a && nat_lt 0 (count_of old a)) ≡ true → old ≡ once test (gathered (take (k + 1) atoms))
     passed_over there = was ∙ sym (again front a ground front_kept (ap (λ bag. test a && nat_lt 0 (count_of bag a)) (sym was) ∙ there)) ∙ ap (once test) (sym taken)

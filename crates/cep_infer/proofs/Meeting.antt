@@ -1,9 +1,8 @@
 -- The nodes of terms, the variables and blanks among them, and the atoms and premises that are built of them.
-use Rattle.std.proofs.Common.{List, map, ◌≡◌, ℕ, ◌+◌, Bool, true, false, ◌||◌, if◌then◌else◌, cond, [], ◌∷◌, ◌++◌, fold, Option, Some, None, unwrap_or, refl, ap, sym, ◌∙◌, append_assoc, ◌<◌, not, filter, length, take, get_or, subst}
+use Rattle.std.proofs.Common.{List, map, ◌≡◌, ℕ, ◌+◌, Bool, true, false, ◌||◌, if◌then◌else◌, cond, [], ◌∷◌, ◌++◌, fold, Option, Some, None, unwrap_or, refl, ap, sym, ◌∙◌, append_assoc, ◌<◌, not, filter, length, take, get_or, subst, arith}
 use Rattle.cep_parse.specs.declared.raw.RawNode.{RawNode}
 use Rattle.cep_types.specs.Sites.{Site, Wanted, sites_of, wanted_from, type_of}
 pub use Rattle.cep_types.proofs.Meeting.{blanks_both}
-use Rattle.std.specs.Prelude.{codes, decimal}
 use Rattle.std.specs.Option.{option_map}
 use Rattle.std.specs.List.{list_any, flat_map, AllZip}
 use Rattle.std.specs.Str.{bytes_eq}
@@ -11,13 +10,12 @@ use Rattle.std.proofs.lemmas.List.{map-append, append-nil, take_more}
 use Rattle.std.proofs.lemmas.Simd.{map-map}
 use Rattle.std.proofs.lemmas.Slice.Eq.{bytes_eq-Decides}
 use Rattle.cep_parse.specs.declared.raw.Span.{Span}
-use Rattle.cep_parse.specs.declared.raw.RawKind.{RawKind}
 use Rattle.cep_parse.specs.declared.raw.RawKind.TheVariants as kind
 use Rattle.cep_parse.specs.declared.raw.RawAtom.{RawAtom}
 use Rattle.cep_source.specs.declared.space.Space.TheVariants as space
 use Rattle.cep_source.specs.Items.{Source, said}
 use Rattle.cep_parse.specs.Raw.{raw_nodes, atoms_in, atoms_of}
-use Rattle.cep_source.specs.Variables.{Occurrence, occurrence_at, blanks_behind, occurrences_from, firsts_beside, variables_of, blanks_after}
+use Rattle.cep_source.specs.Variables.{Occurrence, blanks_behind, occurrences_from, firsts_beside, variables_of, blanks_after}
 use Rattle.cep_types.specs.Heads.{number_of}
 use Rattle.cep_types.specs.Met.{kinds_met, further, AreMet}
 use Rattle.cep_infer.specs.Meaning.{names_of, kinds_of, ArePremisesBy, is_back, is_fact_by, IsClauseBy}
@@ -63,11 +61,7 @@ wanted_names_of ws = map (λ (w : Wanted). w.name) ws
 
 firsts_names : (seen : List (List ℕ)) (os : List Occurrence) → occurring (firsts_beside seen os) ≡ new_names seen (occurring os)
 firsts_names seen [] = refl
-firsts_names seen (o ∷ os) = cases (has seen o.name) (firsts_names seen os) (firsts_names (o.name ∷ seen) os) where
-  cases : (b : Bool) → occurring (firsts_beside seen os) ≡ new_names seen (occurring os) → occurring (firsts_beside (o.name ∷ seen) os) ≡ new_names (o.name ∷ seen) (occurring os)
-      → occurring (if b then firsts_beside seen os else o ∷ firsts_beside (o.name ∷ seen) os) ≡ (if b then new_names seen (occurring os) else o.name ∷ new_names (o.name ∷ seen) (occurring os))
-  cases true old new = old
-  cases false old new = ap (λ names. o.name ∷ names) new
+firsts_names seen (o ∷ os) = grind (arith, has, occurring, new_names, o.name, firsts_names seen os, firsts_names (o.name ∷ seen) os)
 
 -- whether the name is that of a wanted one
 abbrev has_wanted : List Wanted → List ℕ → Bool
@@ -75,12 +69,7 @@ has_wanted ws name = list_any (λ (w : Wanted). bytes_eq name w.name) ws
 
 any_end : (ws : List Wanted) (w : Wanted) (name : List ℕ) → has_wanted (ws ++ w ∷ []) name ≡ (bytes_eq name w.name || has_wanted ws name)
 any_end [] w name = refl
-any_end (v ∷ ws) w name = ap (λ b. bytes_eq name v.name || b) (any_end ws w name) ∙ swap (bytes_eq name v.name) (bytes_eq name w.name) (has_wanted ws name) where
-  swap : (a b c : Bool) → (a || (b || c)) ≡ (b || (a || c))
-  swap true true c = refl
-  swap true false c = refl
-  swap false true c = refl
-  swap false false c = refl
+any_end (v ∷ ws) w name = grind (arith, has_wanted, v.name, any_end ws w name, w.name)
 
 met_names : (seen : List (List ℕ)) (acc ws : List Wanted) → ((name : List ℕ) → has seen name ≡ has_wanted acc name)
     → wanted_names_of (fold further acc ws) ≡ wanted_names_of acc ++ new_names seen (wanted_names_of ws)
@@ -100,14 +89,7 @@ met_names seen acc (w ∷ ws) same = rw (← same w.name) (cases (has seen w.nam
 -- the variables of terms are those of their nodes
 wanted_names : (source : Source) (blanks : ℕ) (sites : List Site) → wanted_names_of (wanted_from source blanks sites) ≡ occurring (occurrences_from source blanks (nodes_at sites))
 wanted_names source blanks [] = refl
-wanted_names source blanks (site ∷ sites) = by_kind site.node.kind site.node.at (wanted_names source (blanks_behind blanks site.node.kind) sites)
-  where
-    by_kind : (kind : RawKind) (at : Span) → wanted_names_of (wanted_from source (blanks_behind blanks kind) sites) ≡ occurring (occurrences_from source (blanks_behind blanks kind) (nodes_at sites))
-        → wanted_names_of (map (λ occurrence. record { name = occurrence.name; wants = site.wants }) (occurrence_at source blanks at kind) ++ wanted_from source (blanks_behind blanks kind) sites)
-        ≡ occurring (occurrence_at source blanks at kind ++ occurrences_from source (blanks_behind blanks kind) (nodes_at sites))
-    by_kind kind.App at rest = rest
-    by_kind kind.Var at rest = ap (λ names. said source at ∷ names) rest
-    by_kind kind.Blank at rest = ap (λ names. (codes "_" ++ decimal (blanks + 1)) ∷ names) rest
+wanted_names source blanks (site ∷ sites) = grind (arith, wanted_names_of, occurring, nodes_at, site.node.kind, site.node.at, wanted_names source (blanks_behind blanks site.node.kind) sites, site.wants)
 
 abbrev name_of : Wanted → List ℕ
 name_of w = w.name
@@ -171,9 +153,7 @@ module _ (source : Source) (atoms : List RawAtom) (variables : Variables) (met :
 
   each_kind : (ws : List Wanted) → map (λ (name : List ℕ). kind_of (type_of source atoms name)) (wanted_names_of ws) ≡ map (λ (w : Wanted). kind_found (found name_of firsts w.name)) ws
   each_kind [] = refl
-  each_kind (w ∷ ws) =
-      ap (λ k. k ∷ map (λ (name : List ℕ). kind_of (type_of source atoms name)) (wanted_names_of ws)) (ap kind_found (sym (found_kept name_of [] all w.name)))
-      ∙ ap (λ ks. kind_found (found name_of firsts w.name) ∷ ks) (each_kind ws)
+  each_kind (w ∷ ws) = cc (found_kept name_of [] all w.name, each_kind ws)
 
   pub kinds_are_met : kinds_met source variables.firsts ≡ kinds_of source atoms
   kinds_are_met =
@@ -190,11 +170,9 @@ module _ (source : Source) (atoms : List RawAtom) (variables : Variables) (met :
 
 module _ (source : Source) (vars : List (List ℕ)) where
   pub atoms_both : (blanks : ℕ) (one two : List RawAtom) (ts us : List AtomTree) → AreAtomsBy source vars blanks one ts → AreAtomsBy source vars (blanks_after blanks (raw_nodes one)) two us → AreAtomsBy source vars blanks (one ++ two) (ts ++ us)
-  atoms_both blanks [] two [] us first second = second
-  atoms_both blanks [] two (t ∷ ts) us first second = absurd first
-  atoms_both blanks (x ∷ one) two [] us first second = absurd first
   atoms_both blanks (x ∷ one) two (t ∷ ts) us first second =
       (first.0, atoms_both (blanks_after blanks x.nodes) one two ts us first.1 (subst (λ n. AreAtomsBy source vars n two us) (blanks_both blanks x.nodes (raw_nodes one)) second))
+  atoms_both blanks one two ts us first second = grind arith
 
   pub none_built : (blanks : ℕ) (old : List AtomTree) → AreBuilt source vars [] blanks blanks old old
   none_built blanks old = record { more = []; new_is = sym (append-nil old); are = tt; behind_is = refl }
@@ -222,38 +200,29 @@ module _ (source : Source) (vars : List (List ℕ)) where
 
   pub atom_built : (xs : List RawAtom) (i : ℕ) (x : RawAtom) (before middle behind : ℕ) (old between new : List AtomTree) → i < length xs → x ≡ get_or xs i x
       → AreBuilt source vars (take i xs) before middle old between → AreBuilt source vars (x ∷ []) middle behind between new → AreBuilt source vars (take (i + 1) xs) before behind old new
-  atom_built xs i x before middle behind old between new h at was is =
-      let atoms : take (i + 1) xs ≡ take i xs ++ x ∷ [] = take_more xs i x h ∙ ap (λ y. take i xs ++ y ∷ []) (sym at) in
-      subst (λ (ys : List RawAtom). AreBuilt source vars ys before behind old new) (sym atoms) (both_built (take i xs) (x ∷ []) before middle behind old between new was is)
+  atom_built xs i x before middle behind old between new h given was is = grind (arith, take_more xs i x h, both_built (take i xs) (x ∷ []) before middle behind old between new was is)
 
   -- an atom in braces, or what it stands for
   pub braces_built : (xs : List RawAtom) (i : ℕ) (x : RawAtom) (stands : Bool) (raws : List RawAtom) (before middle behind : ℕ) (old between new : List AtomTree) → i < length xs → x ≡ get_or xs i x
       → stands ≡ stands_for_context source x → raws ≡ (if stands then listed_in source (said source x.name) else x ∷ [])
       → AreBuilt source vars (start_atoms source (start.Listed (take i xs))) before middle old between → AreBuilt source vars raws middle behind between new → AreBuilt source vars (start_atoms source (start.Listed (take (i + 1) xs))) before behind old new
-  braces_built xs i x stands raws before middle behind old between new h at stands_is raws_are was is =
-      part_built (λ (atom : RawAtom). if stands_for_context source atom then listed_in source (said source atom.name) else atom ∷ []) xs i x before middle behind old between new h at was
-      (subst (λ (them : List RawAtom). AreBuilt source vars them middle behind between new) (raws_are ∙ ap (λ (b : Bool). if b then listed_in source (said source x.name) else x ∷ []) stands_is) is)
+  braces_built xs i x stands raws before middle behind old between new h given stands_is raws_are was is = grind (arith, part_built)
 
   -- ---- premises
 
   pub premises_both : (blanks : ℕ) (one two : List RawElem) (ps qs : List PremiseTree) → ArePremisesBy source vars blanks one ps → ArePremisesBy source vars (blanks_after blanks (raw_nodes (atoms_of one))) two qs → ArePremisesBy source vars blanks (one ++ two) (ps ++ qs)
-  premises_both blanks [] two [] qs first second = second
-  premises_both blanks [] two (p ∷ ps) qs first second = absurd first
   premises_both blanks (elem.Qui span ∷ one) two ps qs first second = premises_both blanks one two ps qs first second
   premises_both blanks (elem.Stage span ∷ one) two ps qs first second = premises_both blanks one two ps qs first second
-  premises_both blanks (elem.Atom kept raw ∷ one) two [] qs first second = absurd first
   premises_both blanks (elem.Atom kept raw ∷ one) two (p ∷ ps) qs first second =
       (first.0, first.1, premises_both (blanks_after blanks raw.nodes) one two ps qs first.2 (subst (λ n. ArePremisesBy source vars n two qs) (blanks_both blanks raw.nodes (raw_nodes (atoms_of one))) second))
+  premises_both blanks one two ps qs first second = grind arith
 
   pub no_premise : (blanks : ℕ) (left : LeftSide) → IsLeftBuilt source vars [] blanks blanks left left
   no_premise blanks left = record { more = []; are = tt; premises_are = sym (append-nil left.premises); backs_are = sym (append-nil left.backs); behind_is = refl }
 
   filter_both : (p : PremiseTree → Bool) (one two : List PremiseTree) → filter p (one ++ two) ≡ filter p one ++ filter p two
   filter_both p [] two = refl
-  filter_both p (x ∷ one) two = cases (p x) (filter_both p one two) where
-    cases : (b : Bool) → filter p (one ++ two) ≡ filter p one ++ filter p two → (if b then x ∷ filter p (one ++ two) else filter p (one ++ two)) ≡ (if b then x ∷ filter p one else filter p one) ++ filter p two
-    cases true e = ap (λ xs. x ∷ xs) e
-    cases false e = e
+  filter_both p (x ∷ one) two = grind (arith, filter_both p one two)
 
   pub left_both : (one two : List RawElem) (before middle behind : ℕ) (old between new : LeftSide) → IsLeftBuilt source vars one before middle old between → IsLeftBuilt source vars two middle behind between new → IsLeftBuilt source vars (one ++ two) before behind old new
   left_both one two before middle behind old between new first second =
@@ -273,9 +242,7 @@ module _ (source : Source) (vars : List (List ℕ)) where
 
   pub elem_built : (xs : List RawElem) (i : ℕ) (x : RawElem) (before middle behind : ℕ) (old between new : LeftSide) → i < length xs → x ≡ get_or xs i x
       → IsLeftBuilt source vars (take i xs) before middle old between → IsLeftBuilt source vars (x ∷ []) middle behind between new → IsLeftBuilt source vars (take (i + 1) xs) before behind old new
-  elem_built xs i x before middle behind old between new h at was is =
-      let side : take (i + 1) xs ≡ take i xs ++ x ∷ [] = take_more xs i x h ∙ ap (λ y. take i xs ++ y ∷ []) (sym at) in
-      subst (λ (ys : List RawElem). IsLeftBuilt source vars ys before behind old new) (sym side) (left_both (take i xs) (x ∷ []) before middle behind old between new was is)
+  elem_built xs i x before middle behind old between new h given was is = grind (arith, take_more xs i x h, left_both (take i xs) (x ∷ []) before middle behind old between new was is)
 
   -- a backward premise more, and one of states
   pub back_built : (marked : Bool) (raw : RawAtom) (before behind : ℕ) (old : LeftSide) (backs : List AtomTree) (atom : AtomTree) → IsAtomBy source vars before raw atom → behind ≡ blanks_after before raw.nodes
@@ -305,23 +272,13 @@ pub clause_built : (source : Source) (head : RawAtom) (goals : List RawAtom) (va
     → AreMet source (head ∷ goals) none_met variables → names ≡ names_among variables.firsts → kinds ≡ kinds_met source variables.firsts
     → IsAtomBy source (names_among variables.firsts) 0 head tree → behind ≡ blanks_after 0 head.nodes → AreAtomsBy source (names_among variables.firsts) behind goals atoms
     → IsClauseBy source (record { head = head; goals = goals }) (record { vars = names; kinds = kinds; head = tree; goals = atoms })
-clause_built source head goals variables names kinds behind tree atoms met names_are kinds_are first blanks_are others = record {
-  vars_are = names_are ∙ names_met source (head ∷ goals) variables met;
-  kinds_are = kinds_are ∙ kinds_are_met source (head ∷ goals) variables met;
-  atoms_are = (
-    subst (λ (vs : List (List ℕ)). IsAtomBy source vs 0 head tree) (sym names_are) first,
-    subst (λ (vs : List (List ℕ)). AreAtomsBy source vs (blanks_after 0 head.nodes) goals atoms) (sym names_are)
-        (subst (λ n. AreAtomsBy source (names_among variables.firsts) n goals atoms) blanks_are others),
-  );
-}
+clause_built source head goals variables names kinds behind tree atoms met names_are kinds_are first blanks_are others = grind (arith, names_met source (head ∷ goals) variables met, kinds_are_met source (head ∷ goals) variables met)
 
 -- ---- what stands for each of some things, one after another
 
 zip_push : {A B : Type 0} (R : A → B → Type 0) (xs : List A) (ys : List B) (x : A) (y : B) → AllZip R xs ys → R x y → AllZip R (xs ++ x ∷ []) (ys ++ y ∷ [])
-zip_push R [] [] x y are is = (is, tt)
-zip_push R [] (b ∷ ys) x y are is = absurd are
-zip_push R (a ∷ xs) [] x y are is = absurd are
 zip_push R (a ∷ xs) (b ∷ ys) x y are is = (are.0, zip_push R xs ys x y are.1 is)
+zip_push R xs ys x y are is = grind arith
 
 pub zip_more : {X A B : Type 0} (R : A → B → Type 0) (f : X → A) (xs : List X) (i : ℕ) (x : X) (old new : List B) (y : B) → i < length xs → x ≡ get_or xs i x
     → AllZip R (map f (take i xs)) old → R (f x) y → new ≡ old ++ y ∷ [] → AllZip R (map f (take (i + 1) xs)) new

@@ -32,10 +32,7 @@ module _ (laws : BagLaws) where
   differs a x o is unequal same = unequal (sym is ∙ subst (λ y. atom_cmp a y ≡ Equal) same (tied_itself laws.total a))
 
   counted_more : (a x : AtomTree) (bag : Multiset) (rest : ℕ) (o : Ordering) → atom_cmp a x ≡ o → count_of bag a ≡ rest → count_of (with_one bag x) a ≡ tally_by o + rest
-  counted_more a x bag rest Less is was = let more = laws.others bag x a (count_of bag x + 1) (differs a x Less is (λ e. cc)) in omega (arith, more, was)
-  counted_more a x bag rest Equal is was =
-      subst (λ y. count_of (with_one bag y) a ≡ 1 + rest) (laws.ties a x is) (let more = laws.own bag a (count_of bag a + 1) in omega (arith, more, was))
-  counted_more a x bag rest Greater is was = let more = laws.others bag x a (count_of bag x + 1) (differs a x Greater is (λ e. cc)) in omega (arith, more, was)
+  counted_more a x bag rest o is was = grind (arith, differs)
 
   -- the copies of an atom are the times that it stands in the list
   counted : (a : AtomTree) (atoms : List AtomTree) → count_of (gathered atoms) a ≡ sum_by (tally a) atoms
@@ -43,9 +40,7 @@ module _ (laws : BagLaws) where
   counted a (x ∷ atoms) = counted_more a x (gathered atoms) (sum_by (tally a) atoms) (atom_cmp a x) refl (counted a atoms) ∙ sym (sum_by-cons (tally a) x atoms)
 
   pub same_gathered : (xs ys : List AtomTree) → IsPermutation xs ys → AllByRecursion IsGroundAtom xs → gathered ys ≡ gathered xs
-  same_gathered xs ys same all =
-      laws.equal (gathered ys) (gathered xs) (laws.gathered_kept ys (all_reordered IsGroundAtom xs ys same all)) (laws.gathered_kept xs all)
-      (λ a. counted a ys ∙ sum_by-IsPermutation (tally a) xs ys same ∙ sym (counted a xs))
+  same_gathered xs ys same all = grind (arith, all_reordered, counted, sum_by-IsPermutation, tally)
 
 -- the atom at a place of a list that is mapped
 pub atom_at : {X : Type 0} (f : X → AtomTree) (xs : List X) (k : ℕ) (x : X) → k < length xs → x ≡ get_or xs k x → get_or (map f xs) k (f x) ≡ f x

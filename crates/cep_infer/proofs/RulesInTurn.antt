@@ -1,6 +1,6 @@
 -- Rules are built from the tokens of a text, and the atoms of its start state are ground.
 use Rattle.std.proofs.Common.{◌≡◌, ◌⊎◌, inl, inr, ⊎_elim, ℕ, Bool, true, false, not, if◌then◌else◌, List, [], ◌∷◌, ◌++◌, filter, refl, ap, sym, subst, ◌∙◌, Contains, suc, ◌+◌, ◌<◌, map, length, take, drop, get_or, ◌≤◌, ◌||◌, append_assoc, append-nil, arith}
-use Rattle.std.specs.Prelude.{Option, Some, None, cond, unwrap_or, slice_get, MatchOption, option_to_list, codes, decimal}
+use Rattle.std.specs.Prelude.{Option, Some, None, cond, unwrap_or, MatchOption, option_to_list}
 use Rattle.std.specs.Option.{option_map}
 use Rattle.std.specs.Str.{bytes_eq}
 use Rattle.std.specs.List.{AllByRecursion, find, flat_map, list_any}
@@ -15,10 +15,10 @@ use Rattle.cep_parse.specs.Raw.{raw_nodes, start_listed, atoms_of, atoms_in}
 use Rattle.cep_term.specs.Tree.{Tree, Trees, AtomTree, variable, node, none, more, AreGround, IsGround, IsGroundAtom}
 use Rattle.cep_refusal.specs.declared.reason.Reason.TheVariants.{VarInContext}
 use Rattle.cep_refusal.specs.First.{wrong}
-use Rattle.cep_source.specs.Items.{Source, TraceItem, ContextItem, said, contexts_of, traces_of, RuleItem, rules_of, ConItem, ClauseItem, declares, clauses_in, clauses_of, is_labelled, bare}
+use Rattle.cep_source.specs.Items.{Source, TraceItem, ContextItem, said, contexts_of, traces_of, RuleItem, rules_of, ConItem, ClauseItem, declares, clauses_in, clauses_of, bare}
 use Rattle.cep_source.specs.Spaces.{context_named, Named, unlabelled_behind, rule_names_from, names_in}
 use Rattle.cep_source.specs.Uses.{state_atoms, stands_for_context, stages_at, stages_named, needed_atoms, made_atoms, clause_atoms, atoms_written}
-use Rattle.cep_source.specs.Variables.{blanks_behind, blanks_after, Occurrence, occurrence_at, occurrences_from, variables_of}
+use Rattle.cep_source.specs.Variables.{blanks_behind, blanks_after, Occurrence, occurrence_at, occurrences_from}
 use Rattle.cep_source.specs.Starts.{listed_in, start_atoms}
 use Rattle.cep_faults.specs.Misnamed.Misnamed.{variable_in_state}
 use Rattle.cep_types.specs.Heads.{Head, var, con, head_at, heads_from, number_of}
@@ -39,7 +39,7 @@ use Rattle.cep_base.specs.FirstNames.{names_among, has_name}
 use Rattle.cep_types.specs.Sites.{rule_scope}
 use Rattle.cep_types.specs.Met.{AreMet, kinds_met}
 use Rattle.cep_infer.specs.declared.left.LeftSide.{LeftSide}
-use Rattle.cep_infer.specs.Meaning.{IsRuleBy, ArePremisesBy, group_of, next_of, stage_named, names_of}
+use Rattle.cep_infer.specs.Meaning.{IsRuleBy, group_of, next_of, stage_named, names_of}
 use Rattle.cep_infer.specs.Built.{IsLeftBuilt}
 use Rattle.cep_infer.proofs.Meeting.{names_met, kinds_are_met}
 use Rattle.std.proofs.lemmas.List.Elements.{filter-append, filter_agree}
@@ -82,9 +82,7 @@ mutual
   terms_ground (more t rest) all = (term_ground t (left_all (heads_of t) (heads_among rest) all), terms_ground rest (right_all (heads_of t) (heads_among rest) all))
 
 head_closed : (source : Source) (vars : List (List ℕ)) (blanks : ℕ) (shape : RawKind) (at : Span) (args : ℕ) → shape ≡ kind.App → IsClosed (head_at source vars blanks shape at args)
-head_closed source vars blanks kind.App at args is = tt
-head_closed source vars blanks kind.Var at args is = absurd cc
-head_closed source vars blanks kind.Blank at args is = absurd cc
+head_closed source vars blanks shape at args is = grind arith
 
 heads_closed : (source : Source) (vars : List (List ℕ)) (blanks : ℕ) (nodes : List RawNode) → AreClosed nodes → AllByRecursion IsClosed (heads_from source vars blanks nodes)
 heads_closed source vars blanks [] all = tt
@@ -95,20 +93,15 @@ atom_ground source vars blanks raw atom by all = terms_ground atom.args (subst (
 
 atoms_ground : (source : Source) (vars : List (List ℕ)) (blanks : ℕ) (raws : List RawAtom) (atoms : List AtomTree) → ((raw : RawAtom) → Contains raws raw → AreClosed raw.nodes) → AreAtomsBy source vars blanks raws atoms
     → AllByRecursion IsGroundAtom atoms
-atoms_ground source vars blanks [] [] closed by = tt
-atoms_ground source vars blanks [] (atom ∷ atoms) closed by = absurd by
-atoms_ground source vars blanks (raw ∷ raws) [] closed by = absurd by
 atoms_ground source vars blanks (raw ∷ raws) (atom ∷ atoms) closed by = (
   atom_ground source vars blanks raw atom by.0 (closed raw (contains_first raw raws)),
   atoms_ground source vars (blanks_after blanks raw.nodes) raws atoms (λ other there. closed other (contains_behind raw raws other there)) by.1,
 )
+atoms_ground source vars blanks raws atoms closed by = grind arith
 
 -- what is found stands in the list
 found_first : {Y : Type 0} (p : Y → Bool) (b : Bool) (z y : Y) (ys : List Y) (further : Option Y) → cond b (Some z) further ≡ Some y → (further ≡ Some y → Contains ys y) → Contains (z ∷ ys) y
-found_first p true z y ys further found later =
-    let same : z ≡ y = cc in
-    subst (λ w. Contains (z ∷ ys) w) same (contains_first z ys)
-found_first p false z y ys further found later = contains_behind z ys y (later found)
+found_first p b z y ys further found later = grind (arith, contains_first, contains_behind)
 
 found_there : {Y : Type 0} (p : Y → Bool) (ys : List Y) (y : Y) → find p ys ≡ Some y → Contains ys y
 found_there p [] y found = absurd cc
@@ -146,11 +139,7 @@ module _ (source : Source) where
   in_braces : (trace : TraceItem) (atom raw : RawAtom) (b : Bool) → Contains (traces_of source) trace → Contains (start_listed trace.start) atom → stands_for_context source atom ≡ b
       → Contains (if b then listed_in source (said source atom.name) else atom ∷ []) raw → Contains (state_atoms source) raw
   in_braces trace atom raw true there inside is listed = of_context (context_named source (said source atom.name)) (said source atom.name) raw refl listed
-  in_braces trace atom raw false there inside is listed =
-      ⊎_elim
-      (λ (same : atom ≡ raw). subst (Contains (state_atoms source)) same (of_braces trace atom there inside is))
-      (λ later. absurd (contains_none raw later))
-      (contains_cases atom [] raw listed)
+  in_braces trace atom raw false there inside is listed = grind (arith, of_braces trace atom there inside is, contains_none, contains_cases atom [] raw listed)
 
   by_start : (trace : TraceItem) (start_ : RawStart) (raw : RawAtom) → Contains (traces_of source) trace → trace.start ≡ start_ → Contains (start_atoms source start_) raw → Contains (state_atoms source) raw
   by_start trace (start.Named name) raw there is listed = of_context (context_named source (said source name)) (said source name) raw refl listed
@@ -164,17 +153,13 @@ module _ (source : Source) where
   -- so none of their nodes is a variable or a blank
   closed_by : IsWellNamed source → (node : RawNode) → Contains (raw_nodes (state_atoms source)) node → (shape : RawKind) → node.kind ≡ shape → shape ≡ kind.App
   closed_by named n there kind.App is = refl
-  closed_by named n there kind.Var is = absurd (named (wrong VarInContext n.at.from) (variable_in_state n there (λ same. cc) refl))
-  closed_by named n there kind.Blank is = absurd (named (wrong VarInContext n.at.from) (variable_in_state n there (λ same. cc) refl))
+  closed_by named n there shape is = absurd (named (wrong VarInContext n.at.from) (variable_in_state n there (λ same. cc) refl))
 
   pub atom_closed : IsWellNamed source → (raw : RawAtom) → Contains (state_atoms source) raw → AreClosed raw.nodes
-  atom_closed named raw there =
-      all_of (λ (n : RawNode). n.kind ≡ kind.App) raw.nodes
-      (λ n inside. closed_by named n (contains_flat (λ (atom : RawAtom). atom.nodes) (state_atoms source) raw n there inside) n.kind refl)
+  atom_closed named raw there = all_of (λ (n : RawNode). n.kind ≡ kind.App) raw.nodes (λ n inside. closed_by named n (contains_flat (λ (atom : RawAtom). atom.nodes) (state_atoms source) raw n there inside) n.kind refl)
 
   pub start_ground : (trace : TraceItem) (atoms : List AtomTree) → IsWellNamed source → Contains (traces_of source) trace → AreAtomsBy source [] 0 (start_atoms source trace.start) atoms → AllByRecursion IsGroundAtom atoms
-  start_ground trace atoms named there by =
-      atoms_ground source [] 0 (start_atoms source trace.start) atoms (λ raw listed. atom_closed named raw (state_written trace raw there listed)) by
+  start_ground trace atoms named there by = atoms_ground source [] 0 (start_atoms source trace.start) atoms (λ raw listed. atom_closed named raw (state_written trace raw there listed)) by
 
 -- A rule is built, and the first stage of a side is found.
 
@@ -185,18 +170,7 @@ pub rule_built : (source : Source) (item : RuleItem) (variables : Variables) (ru
     → IsLeftBuilt source (names_among variables.firsts) item.raw.left 0 behind (record { premises = []; backs = [] }) left → rule.premises ≡ left.premises → rule.backs ≡ left.backs
     → AreAtomsBy source (names_among variables.firsts) behind (atoms_of item.raw.right) rule.right
     → IsRuleBy source item rule
-rule_built source item variables rule behind left met vars_are kinds_are group_is next_is left_is premises_are backs_are right_is = record {
-  group_is = group_is;
-  next_is = next_is;
-  vars_are = vars_are ∙ names_met source (rule_scope item) variables met;
-  kinds_are = kinds_are ∙ kinds_are_met source (rule_scope item) variables met;
-  left = left_is.more;
-  left_is = subst (λ (vs : List (List ℕ)). ArePremisesBy source vs 0 item.raw.left left_is.more) (sym vars_are) left_is.are;
-  premises_are = premises_are ∙ left_is.premises_are;
-  backs_are = backs_are ∙ left_is.backs_are;
-  right_is = subst (λ (vs : List (List ℕ)). AreAtomsBy source vs (blanks_after 0 (raw_nodes (atoms_of item.raw.left))) (atoms_of item.raw.right) rule.right) (sym vars_are)
-      (subst (λ n. AreAtomsBy source (names_among variables.firsts) n (atoms_of item.raw.right) rule.right) left_is.behind_is right_is);
-}
+rule_built source item variables rule behind left met vars_are kinds_are group_is next_is left_is premises_are backs_are right_is = grind (arith, names_met, kinds_are_met)
 
 -- each rule has a name
 names_count : (source : Source) (unlabelled : ℕ) (items : List RuleItem) → length (rule_names_from source unlabelled items) ≡ length items
@@ -204,31 +178,23 @@ names_count source unlabelled [] = refl
 names_count source unlabelled (x ∷ items) = ap suc (names_count source (unlabelled_behind unlabelled x.raw.label) items)
 
 pub named_each : (source : Source) (refs : List RuleRef) (names : List (List ℕ)) → map rule_item refs ≡ rules_of source → names ≡ map (λ (named : Named). named.name) (names_in source space.Rules) → length names ≡ length refs
-named_each source refs names refs_are names_are =
-    ap length names_are ∙ length-map (names_in source space.Rules) (λ (named : Named). named.name) ∙ names_count source 0 (rules_of source)
-    ∙ sym (ap length refs_are) ∙ length-map refs rule_item
+named_each source refs names refs_are names_are = grind (arith, names_are, length-map, names_count)
 
 pub named_more : {X : Type 0} (f : X → List ℕ) (names : List (List ℕ)) (i : ℕ) (name : List ℕ) (old new : List X) (x : X) → i < length names → name ≡ get_or names i name
     → map f old ≡ take i names → f x ≡ name → new ≡ old ++ x ∷ [] → map f new ≡ take (i + 1) names
-named_more f names i name old new x h at was is new_is =
-    ap (map f) new_is ∙ map-append f old (x ∷ []) ∙ ap (λ front. front ++ f x ∷ []) was ∙ ap (λ last. take i names ++ last ∷ []) (is ∙ at) ∙ sym (take_more names i name h)
+named_more f names i name old new x h given was is new_is = grind (arith, map-append, take_more)
 
 -- the first stage of a side
 pub none_at : (x : RawElem) → ((name : Span) → x ≡ elem.Stage name → ⊥) → stages_at x ≡ []
-none_at (elem.Stage name) other = absurd (other name refl)
-none_at (elem.Atom kept atom) other = refl
-none_at (elem.Qui span) other = refl
+none_at x other = grind arith
 
 pub no_stage_yet : (side : List RawElem) (i : ℕ) (x : RawElem) → i < length side → x ≡ get_or side i x → stages_named side ≡ stages_named (drop i side) → stages_at x ≡ []
     → stages_named side ≡ stages_named (drop (i + 1) side)
-no_stage_yet side i x h at was nothing =
-    was ∙ ap stages_named (drop_more side i x h) ∙ ap (λ ss. ss ++ stages_named (drop (i + 1) side)) (ap stages_at (sym at) ∙ nothing)
+no_stage_yet side i x h given was nothing = grind (arith, drop_more)
 
 pub stage_here : (source : Source) (side : List RawElem) (i : ℕ) (x : RawElem) (name : Span) → i < length side → x ≡ get_or side i x → stages_named side ≡ stages_named (drop i side) → x ≡ elem.Stage name
     → stage_named source side ≡ number_of source space.Stages (said source name)
-stage_here source side i x name h at was one =
-    ap (λ (stages : List Span). unwrap_or (option_map (λ (span : Span). number_of source space.Stages (said source span)) (slice_get stages 0)) 0)
-    (was ∙ ap stages_named (drop_more side i x h) ∙ ap (λ ss. ss ++ stages_named (drop (i + 1) side)) (ap stages_at (sym at ∙ one)))
+stage_here source side i x name h given was one = grind (arith, drop_more)
 
 -- The backward premises of a side, and what is unbound, one after another.
 
@@ -239,19 +205,11 @@ kept_both f p xs ys = ap (map f) (filter-append p xs ys) ∙ map-append f (filte
 -- one element of a loop more
 pub kept_more : {X Y Z : Type 0} (f : Y → Z) (p : Y → Bool) (g : X → List Y) (xs : List X) (i : ℕ) (x : X) (old new further : List Z) → i < length xs → x ≡ get_or xs i x
     → old ≡ map f (filter p (flat_map g (take i xs))) → further ≡ map f (filter p (g x)) → new ≡ old ++ further → new ≡ map f (filter p (flat_map g (take (i + 1) xs)))
-kept_more f p g xs i x old new further h at was is new_is =
-    new_is ∙ ap (λ zs. zs ++ further) was ∙ ap (λ zs. map f (filter p (flat_map g (take i xs))) ++ zs) is
-    ∙ sym (ap (λ ys. map f (filter p ys)) items ∙ kept_both f p (flat_map g (take i xs)) (g x))
-  where
-    items : flat_map g (take (i + 1) xs) ≡ flat_map g (take i xs) ++ g x
-    items = ap (flat_map g) (take_more xs i x h) ∙ flat_map-append g (take i xs) (get_or xs i x ∷ []) ∙ ap (λ ys. flat_map g (take i xs) ++ ys) (append-nil (g (get_or xs i x)) ∙ ap g (sym at))
+kept_more f p g xs i x old new further h given was is new_is = grind (arith, kept_both f p (flat_map g (take i xs)) (g x), take_more xs i x h, flat_map-append g (take i xs) (get_or xs i x ∷ []), append-nil (g (get_or xs i x)))
 
 -- what one element gives, if it passes
 pub one_kept : {Y Z : Type 0} (f : Y → Z) (p : Y → Bool) (ys : List Y) (y : Y) (b : Bool) → ys ≡ y ∷ [] → b ≡ p y → (if b then f y ∷ [] else []) ≡ map f (filter p ys)
-one_kept f p ys y b are is = cases b is ∙ ap (λ (them : List _). map f (filter p them)) (sym are) where
-  cases : (c : Bool) → c ≡ p y → (if c then f y ∷ [] else []) ≡ map f (filter p (y ∷ []))
-  cases true e = rw (← e) refl
-  cases false e = rw (← e) refl
+one_kept f p ys y b are is = grind arith
 
 -- what was pushed, and what is still to come
 pushed : {Z : Type 0} (old new front rest whole all : List Z) → new ≡ old ++ front → whole ≡ front ++ rest → old ++ whole ≡ all → new ++ rest ≡ all
@@ -264,49 +222,26 @@ places_of p occurrences = map (λ (occurrence : Occurrence). occurrence.at.from)
 module _ (source : Source) where
   occurrences_both : (blanks : ℕ) (nodes others : List RawNode) → occurrences_from source blanks (nodes ++ others) ≡ occurrences_from source blanks nodes ++ occurrences_from source (blanks_after blanks nodes) others
   occurrences_both blanks [] others = refl
-  occurrences_both blanks (one_node ∷ nodes) others =
-      let first = occurrence_at source blanks one_node.at one_node.kind in
-      ap (λ rest. first ++ rest) (occurrences_both (blanks_behind blanks one_node.kind) nodes others)
-      ∙ sym (append_assoc first (occurrences_from source (blanks_behind blanks one_node.kind) nodes) (occurrences_from source (blanks_after (blanks_behind blanks one_node.kind) nodes) others))
+  occurrences_both blanks (one_node ∷ nodes) others = grind (arith, append_assoc, one_node.at, one_node.kind, occurrences_both (blanks_behind blanks one_node.kind) nodes others)
 
   -- whether a node has a variable that is not there
   pub node_passes : (firsts : List (List ℕ × Span)) (blanks : ℕ) (at : Span) (shape : RawKind) (name : Option (List ℕ)) (b : Bool) → option_to_list name ≡ map (λ (occurrence : Occurrence). occurrence.name) (occurrence_at source blanks at shape)
       → MatchOption name (b ≡ false) (λ n. b ≡ not (has_name firsts n)) → (if b then at.from ∷ [] else []) ≡ places_of (λ occurrence. not (has_name firsts occurrence.name)) (occurrence_at source blanks at shape)
-  node_passes firsts blanks at kind.App None b named passes = ap (λ c. if c then at.from ∷ [] else []) passes
-  node_passes firsts blanks at kind.App (Some n) b named passes = absurd cc
-  node_passes firsts blanks at kind.Var None b named passes = absurd cc
-  node_passes firsts blanks at kind.Var (Some n) b named passes =
-      let same : n ≡ said source at = cc in
-      one_kept (λ (o : Occurrence). o.at.from) (λ (o : Occurrence). not (has_name firsts o.name)) _ (record { name = said source at; at = at }) b refl (passes ∙ ap (λ m. not (has_name firsts m)) same)
-  node_passes firsts blanks at kind.Blank None b named passes = absurd cc
-  node_passes firsts blanks at kind.Blank (Some n) b named passes =
-      let same : n ≡ codes "_" ++ decimal (blanks + 1) = cc in
-      one_kept (λ (o : Occurrence). o.at.from) (λ (o : Occurrence). not (has_name firsts o.name)) _ (record { name = codes "_" ++ decimal (blanks + 1); at = at }) b refl (passes ∙ ap (λ m. not (has_name firsts m)) same)
+  node_passes firsts blanks at shape name b named passes = grind (arith, one_kept)
 
   -- one node more
   pub node_pushed : (p : Occurrence → Bool) (nodes : List RawNode) (i blanks behind : ℕ) (d : RawNode) (old further new all : List ℕ) → i < length nodes
       → further ≡ places_of p (occurrence_at source blanks (get_or nodes i d).at (get_or nodes i d).kind) → new ≡ old ++ further → behind ≡ blanks_behind blanks (get_or nodes i d).kind
       → old ++ places_of p (occurrences_from source blanks (drop i nodes)) ≡ all → new ++ places_of p (occurrences_from source behind (drop (i + 1) nodes)) ≡ all
-  node_pushed p nodes i blanks behind d old further new all h more_is new_is behind_is was =
-      let n = get_or nodes i d in
-      let rest = drop (i + 1) nodes in
-      pushed old new (places_of p (occurrence_at source blanks n.at n.kind)) (places_of p (occurrences_from source behind rest)) (places_of p (occurrences_from source blanks (drop i nodes))) all
-      (new_is ∙ ap (λ zs. old ++ zs) more_is)
-      (ap (λ (ns : List RawNode). places_of p (occurrences_from source blanks ns)) (drop_more nodes i d h)
-      ∙ kept_both (λ (occurrence : Occurrence). occurrence.at.from) p (occurrence_at source blanks n.at n.kind) (occurrences_from source (blanks_behind blanks n.kind) rest)
-      ∙ ap (λ m. places_of p (occurrence_at source blanks n.at n.kind) ++ places_of p (occurrences_from source m rest)) (sym behind_is))
-      was
+  node_pushed p nodes i blanks behind d old further new all h more_is new_is behind_is was = grind (arith, pushed, places_of, drop_more, kept_both)
 
   pub node_counted : (nodes : List RawNode) (i blanks behind : ℕ) (d : RawNode) (all : ℕ) → i < length nodes → behind ≡ blanks_behind blanks (get_or nodes i d).kind
       → blanks_after blanks (drop i nodes) ≡ all → blanks_after behind (drop (i + 1) nodes) ≡ all
-  node_counted nodes i blanks behind d all h behind_is was =
-      ap (λ n. blanks_after n (drop (i + 1) nodes)) behind_is ∙ sym (ap (blanks_after blanks) (drop_more nodes i d h)) ∙ was
+  node_counted nodes i blanks behind d all h behind_is was = grind (arith, drop_more)
 
   -- one element more
   elem_nodes : (side : List RawElem) (i : ℕ) (elem : RawElem) → i < length side → elem ≡ get_or side i elem → raw_nodes (atoms_of (drop i side)) ≡ raw_nodes (atoms_in elem) ++ raw_nodes (atoms_of (drop (i + 1) side))
-  elem_nodes side i elem h at =
-      ap (λ (es : List RawElem). raw_nodes (atoms_of es)) (drop_more side i elem h ∙ ap (λ (e : RawElem). e ∷ drop (i + 1) side) (sym at))
-      ∙ flat_map-append (λ (atom : RawAtom). atom.nodes) (atoms_in elem) (atoms_of (drop (i + 1) side))
+  elem_nodes side i elem h given = grind (arith, drop_more, flat_map-append)
 
   pub elem_pushed : (p : Occurrence → Bool) (side : List RawElem) (i blanks behind : ℕ) (elem : RawElem) (nodes : List RawNode) (old new all : List ℕ) → i < length side → elem ≡ get_or side i elem → nodes ≡ raw_nodes (atoms_in elem)
       → new ≡ old ++ places_of p (occurrences_from source blanks nodes) → behind ≡ blanks_after blanks nodes
@@ -337,23 +272,17 @@ module _ (source : Source) where
   has_names (entry ∷ firsts) name = ap (λ b. b || has_name firsts name) (bytes_eq_sym name entry.0) ∙ ap (λ b. bytes_eq entry.0 name || b) (has_names firsts name)
 
   names_are : (atoms : List RawAtom) (left : Variables) → AreVariables source atoms left → names_among left.firsts ≡ names_of source atoms
-  names_are atoms left are =
-      ap (λ (firsts : List (List ℕ × Span)). names_among firsts) are.firsts
-      ∙ map-map (λ (entry : List ℕ × Span). entry.0) (λ (occurrence : Occurrence). (occurrence.name, occurrence.at)) (variables_of source atoms)
+  names_are atoms left are = grind (arith, map-map)
 
   fresh_is : (atoms : List RawAtom) (left : Variables) → AreVariables source atoms left → (occurrence : Occurrence) → fresh left.firsts occurrence ≡ unnamed atoms occurrence
   fresh_is atoms left are occurrence = ap not (has_names left.firsts occurrence.name ∙ ap (λ (names : List (List ℕ)). list_any (λ name. bytes_eq name occurrence.name) names) (names_are atoms left are))
 
   unbound_met : (atoms : List RawAtom) (right : List RawNode) (left : Variables) → AreVariables source atoms left → places_of (fresh left.firsts) (occurrences_from source left.blanks right) ≡ places_of (unnamed atoms) (occurrences_from source (blanks_after 0 (raw_nodes atoms)) right)
-  unbound_met atoms right left are =
-      ap (λ n. places_of (fresh left.firsts) (occurrences_from source n right)) are.blanks
-      ∙ ap (map (λ (occurrence : Occurrence). occurrence.at.from)) (filter_agree (fresh left.firsts) (unnamed atoms) (fresh_is atoms left are) (occurrences_from source (blanks_after 0 (raw_nodes atoms)) right))
+  unbound_met atoms right left are = grind (arith, places_of, fresh, filter_agree, unnamed, fresh_is)
 
   pub unbound_is : (item : RuleItem) (left_side right_side : List RawElem) (left : Variables) → left_side ≡ item.raw.left → right_side ≡ item.raw.right → AreVariables source (atoms_of left_side) left
       → places_of (λ (occurrence : Occurrence). not (has_name left.firsts occurrence.name)) (occurrences_from source left.blanks (raw_nodes (atoms_of right_side))) ≡ unbound_at source item
-  unbound_is item left_side right_side left left_is right_is are =
-      ap (λ (side : List RawElem). places_of (fresh left.firsts) (occurrences_from source left.blanks (raw_nodes (atoms_of side)))) right_is
-      ∙ unbound_met (atoms_of item.raw.left) (raw_nodes (atoms_of item.raw.right)) left (subst (λ (side : List RawElem). AreVariables source (atoms_of side) left) left_is are)
+  unbound_is item left_side right_side left left_is right_is are = rw (right_is, unbound_met (atoms_of item.raw.left) (raw_nodes (atoms_of item.raw.right)) left (subst (λ (side : List RawElem). AreVariables source (atoms_of side) left) left_is are))
 
 -- Which atoms and names of a raw file are tokens of the text, and that the nodes of an atom are its arguments.
 
@@ -372,8 +301,7 @@ module _ (tokens : List Token) where
   side_atoms (elem.Stage name ∷ side) all = side_atoms side all.1
 
   start_all : (start_ : RawStart) → IsStartOf tokens start_ → AreAtoms (start_listed start_)
-  start_all (start.Named name) is = tt
-  start_all (start.Listed atoms) is = is
+  start_all start_ is = grind arith
 
   -- what the items declare is made of tokens
   abbrev IsRuleMade : RuleItem → Type 0
@@ -401,17 +329,13 @@ module _ (tokens : List Token) where
   labelled_made false con_item is = tt
 
   clause_made : (source : Source) (item_ : RawItem) → IsItemOf tokens item_ → AllByRecursion IsClauseMade (clauses_in source item_)
-  clause_made source (item.Colon left args right) is = labelled_made (is_labelled source args right) (record { name = left; args = args; sort = right }) is.2
-  clause_made source (item.Clause label head goals) is = (is.1, tt)
-  clause_made source _ is = tt
+  clause_made source item_ is = grind (arith, labelled_made)
 
   context_made : (item_ : RawItem) → IsItemOf tokens item_ → AllByRecursion IsContextMade (declares item_).contexts
-  context_made (item.Context name atoms) is = (is.1, tt)
-  context_made _ is = tt
+  context_made item_ is = grind arith
 
   trace_made : (item_ : RawItem) → IsItemOf tokens item_ → AllByRecursion IsTraceMade (declares item_).traces
-  trace_made (item.Trace at limit stage start_) is = (start_all start_ is.3, tt)
-  trace_made _ is = tt
+  trace_made item_ is = grind (arith, start_all)
 
   all_made : (source : Source) → AllByRecursion (IsItemOf tokens) source.file → AreAtoms (atoms_written source)
   all_made source all =
