@@ -16,40 +16,29 @@ use Rattle.cep_base.proofs.Lists.{none_some, some_same, holds_at}
 -- Flags that are set, one after another.
 
 pub set_kept : (flags : List Bool) (n m : ℕ) → holds flags m ≡ true → holds (slice_set flags n true) m ≡ true
-set_kept [] n m h = h
-set_kept (b ∷ flags) zero zero h = refl
-set_kept (b ∷ flags) zero (suc m) h = h
-set_kept (b ∷ flags) (suc n) zero h = h
 set_kept (b ∷ flags) (suc n) (suc m) h = set_kept flags n m h
+set_kept flags n m h = grind arith
 
 pub set_here : (flags : List Bool) (n : ℕ) → n < length flags → holds (slice_set flags n true) n ≡ true
-set_here [] n low = absurd (omega arith)
-set_here (b ∷ flags) zero low = refl
 set_here (b ∷ flags) (suc n) low = set_here flags n (omega arith)
+set_here flags n low = grind arith
 
 pub set_or : (flags : List Bool) (n m : ℕ) → holds (slice_set flags n true) m ≡ true → (n ≡ m) ⊎ (holds flags m ≡ true)
-set_or [] n m h = inr h
-set_or (b ∷ flags) zero zero h = inl refl
-set_or (b ∷ flags) zero (suc m) h = inr h
-set_or (b ∷ flags) (suc n) zero h = inr h
 set_or (b ∷ flags) (suc n) (suc m) h = ⊎_elim (λ e. inl (ap suc e)) (λ k. inr k) (set_or flags n m h)
+set_or flags n m h = grind arith
 
 pub set_again : (flags : List Bool) (n : ℕ) → holds flags n ≡ true → slice_set flags n true ≡ flags
-set_again [] n h = refl
-set_again (b ∷ flags) zero h = let e : true ≡ b = cc in ap (λ c. c ∷ flags) e
 set_again (b ∷ flags) (suc n) h = ap (λ rest. b ∷ rest) (set_again flags n h)
+set_again flags n h = grind arith
 
 pub set_fewer : (flags : List Bool) (n : ℕ) → n < length flags → holds flags n ≡ false → suc (unset (slice_set flags n true)) ≡ unset flags
-set_fewer [] n low h = absurd (omega arith)
-set_fewer (true ∷ flags) zero low h = cc
-set_fewer (false ∷ flags) zero low h = refl
 set_fewer (true ∷ flags) (suc n) low h = set_fewer flags n (omega arith) h
 set_fewer (false ∷ flags) (suc n) low h = ap suc (set_fewer flags n (omega arith) h)
+set_fewer flags n low h = grind arith
 
 pub none_set : (count n : ℕ) → holds (replicate count false) n ≡ false
-none_set zero n = refl
-none_set (suc count) zero = refl
 none_set (suc count) (suc n) = none_set count n
+none_set count n = refl
 
 -- What is marked in the end are the bad pairs.
 
@@ -72,12 +61,11 @@ led_bad clauses size calls start plain law made only n (there caller callee amon
 round_marked : (clauses : List ClauseTree) (calls : List Call) (seen marked : List Bool) → AllByRecursion (IsPlainClause 32) clauses
     → ((n : ℕ) → holds seen n ≡ true → IsDone clauses seen calls n) → holds marked 0 ≡ true → AllByRecursion (IsFollowed marked) calls
     → (round n : ℕ) → holds seen n ≡ true → IsAmong (IsBadInRound clauses round) n → holds marked n ≡ true
-round_marked clauses calls seen marked plain gone first followed round zero h bad = first
-round_marked clauses calls seen marked plain gone first followed zero (suc n) h bad = absurd bad
 round_marked clauses calls seen marked plain gone first followed (suc round) (suc n) h bad =
     let fails = fails_to (IsBadInRound clauses round) (n / 256) (positions_of (n % 256)) clauses plain bad in
     let done = gone (suc n) h fails.number fails.called in
     all_at (IsFollowed marked) calls (call_of (suc n) fails.number) followed done.0 (round_marked clauses calls seen marked plain gone first followed round fails.number done.1 fails.among)
+round_marked clauses calls seen marked plain gone first followed round n h bad = grind arith
 
 bad_marked : (clauses : List ClauseTree) (calls : List Call) (seen marked : List Bool) → AllByRecursion (IsPlainClause 32) clauses
     → ((n : ℕ) → holds seen n ≡ true → IsDone clauses seen calls n) → holds marked 0 ≡ true → AllByRecursion (IsFollowed marked) calls
@@ -97,11 +85,10 @@ pub decided : (clauses : List ClauseTree) (size : ℕ) (numbers : List ℕ) (cal
     → TellsBad clauses numbers marked
 decided clauses size numbers calls none start marked plain law closed some unset is kept led followed long low =
     let first : holds marked 0 ≡ true = kept 0 (subst (λ flags. holds flags 0 ≡ true) (sym is) (set_here none 0 some)) in
-    let only : (n : ℕ) → holds start n ≡ true → n ≡ 0 = λ n h. only_first none unset n (subst (λ flags. holds flags n ≡ true) is h) in
     record {
       within = subst (λ k. AllByRecursion (λ n. n < k) numbers) (sym long) low;
       told = λ n among. (
-        (λ h. led_bad clauses size calls start plain law closed.called only n (led n h)),
+        (λ h. led_bad clauses size calls start plain law closed.called (λ n h. only_first none unset n (subst (λ flags. holds flags n ≡ true) is h)) n (led n h)),
         (λ bad. bad_marked clauses calls closed.seen marked plain closed.gone first followed n (closed.all_seen n among) bad),
       );
     }
@@ -172,14 +159,12 @@ sees : (size : ℕ) (numbers : List ℕ) (seen after : List Bool) (queue longer 
 sees size numbers seen after queue longer long low e f = grind (arith, sees_all size numbers seen queue long low)
 
 got_before : (xs ys : List ℕ) (k n : ℕ) → k < length xs → slice_get (xs ++ ys) k ≡ Some n → slice_get xs k ≡ Some n
-got_before [] ys k n low got = absurd (omega arith)
-got_before (x ∷ xs) ys zero n low got = got
 got_before (x ∷ xs) ys (suc k) n low got = got_before xs ys k n (omega arith) got
+got_before xs ys k n low got = grind arith
 
 got_after : (xs ys : List ℕ) (k n : ℕ) → slice_get xs k ≡ Some n → slice_get (xs ++ ys) k ≡ Some n
-got_after [] ys k n got = none_some n got
-got_after (x ∷ xs) ys zero n got = got
 got_after (x ∷ xs) ys (suc k) n got = got_after xs ys k n got
+got_after xs ys k n got = grind (arith, none_some)
 
 -- more is seen
 saw : (clauses : List ClauseTree) (size : ℕ) (numbers : List ℕ) (seen after : List Bool) (queue longer : List ℕ) (calls : List Call) (done : ℕ)
@@ -248,8 +233,7 @@ step clauses size seen after queue longer calls more done n numbers is at called
     recorded clauses size after longer calls (calls_from n numbers) done (made clauses size n numbers low within (λ m h. subst (λ list. Contains list m) called h)) known
     in
     let present : slice_get longer done ≡ Some n = ap (λ list. slice_get list done) saw_them.extends ∙ got_after queue saw_them.more done n at in
-    let P : List Call → Type 0 = λ list. IsReachedSoFar clauses size after longer list (done + 1) in
-    subst P (sym records)
+    subst (λ list. IsReachedSoFar clauses size after longer list (done + 1)) (sym records)
     (counted clauses size after longer (calls ++ calls_from n numbers) done n present
     (λ m h. (contains_right calls (calls_from n numbers) (call_of n m) (call_there n numbers m (subst (λ list. Contains list m) (sym called) h)), saw_them.each m (subst (λ list. Contains list m) (sym called) h)))
     all)
@@ -302,8 +286,7 @@ closed clauses size seen first queue calls done all all_seen is = record {
   called = is.called;
   gone = λ n h.
       let at = is.queued n h in
-      let got : slice_get queue at.0 ≡ Some n = slice_get-get_or queue at.0 n at.1 ∙ ap Some at.2 in
-      is.gone at.0 n (omega (arith, at.1)) got;
+      is.gone at.0 n (omega (arith, at.1)) (slice_get-get_or queue at.0 n at.1 ∙ ap Some at.2);
 }
 
 -- What is marked while calls are followed back.

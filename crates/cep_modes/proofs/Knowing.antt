@@ -1,25 +1,22 @@
 -- What is known after one thing and another was learnt.
-use Rattle.std.proofs.Common.{◌≡◌, ◌/◌, ℕ, zero, suc, ◌&&◌, ◌||◌, Bool, true, false, List, [], ◌∷◌, refl, ap, sym, ◌∙◌}
+use Rattle.std.proofs.Common.{◌≡◌, ◌/◌, ℕ, suc, ◌&&◌, ◌||◌, Bool, true, false, List, [], ◌∷◌, ap, sym, ◌∙◌, arith}
 use Rattle.cep_term.specs.Tree.{Tree, Trees, node, more}
 use Rattle.cep_rule.specs.Groundness.{Known, nothing, occurs, occurs_among, known_at}
 use Rattle.cep_modes.specs.Places.{holds, either, positions_of}
 
 or_assoc : (a b c : Bool) → ((a || b) || c) ≡ (a || (b || c))
-or_assoc true b c = refl
-or_assoc false b c = refl
+or_assoc a b c = grind arith
 
 -- two things that are learnt one after the other are one thing
 pub either_both : (old middle new one other : Known) → middle ≡ either old one → new ≡ either middle other → new ≡ either old (either one other)
-either_both old middle new one other first second =
-    second ∙ ap (λ known. either known other) first ∙ (λ i v. or_assoc (old v) (one v) (other v) i)
+either_both old middle new one other first second = grind (arith, or_assoc)
 
 pub learnt_node : (old new : Known) (t : Tree) (c : ℕ) (args : Trees) → t ≡ node c args → new ≡ either old (occurs_among args) → new ≡ either old (occurs t)
 learnt_node old new t c args is learnt = learnt ∙ ap (λ tree. either old (occurs tree)) (sym is)
 
 pub learnt_args : (old middle new : Known) (args : Trees) (t : Tree) (rest : Trees) → args ≡ more t rest
     → middle ≡ either old (occurs t) → new ≡ either middle (occurs_among rest) → new ≡ either old (occurs_among args)
-learnt_args old middle new args t rest is first second =
-    either_both old middle new (occurs t) (occurs_among rest) first second ∙ ap (λ all. either old (occurs_among all)) (sym is)
+learnt_args old middle new args t rest is first second = grind (arith, either_both)
 
 pub learnt_where : (old new : Known) (is_so : Bool) (t : Tree) → is_so ≡ true → new ≡ either old (occurs t) → new ≡ either old (λ v. is_so && occurs t v)
 learnt_where old new is_so t e learnt = learnt ∙ ap (λ b. either old (λ v. b && occurs t v)) (sym e)
@@ -28,9 +25,7 @@ pub learnt_at : (old middle new : Known) (n : ℕ) (args : Trees) (t : Tree) (re
     → middle ≡ either old (λ v. positions_of n 0 && occurs t v)
     → new ≡ either middle (known_at (positions_of (n / 2)) rest)
     → new ≡ either old (known_at (positions_of n) args)
-learnt_at old middle new n args t rest is first second =
-    either_both old middle new (λ v. positions_of n 0 && occurs t v) (known_at (positions_of (n / 2)) rest) first second
-    ∙ ap (λ all. either old (known_at (positions_of n) all)) (sym is)
+learnt_at old middle new n args t rest is first second = grind (arith, either_both)
 
 -- whether no flag is set
 abbrev pub none_set : List Bool → Bool
@@ -39,10 +34,8 @@ none_set (true ∷ flags) = false
 none_set (false ∷ flags) = none_set flags
 
 none_holds : (flags : List Bool) → none_set flags ≡ true → (v : ℕ) → holds flags v ≡ false
-none_holds [] e v = refl
-none_holds (true ∷ flags) e v = cc
-none_holds (false ∷ flags) e zero = refl
 none_holds (false ∷ flags) e (suc v) = none_holds flags e v
+none_holds flags e v = grind arith
 
 pub none_known : (flags : List Bool) → none_set flags ≡ true → holds flags ≡ nothing
 none_known flags e = λ i v. none_holds flags e v i

@@ -34,17 +34,14 @@ nothing_at zero = refl
 nothing_at (suc i) = nothing_at i
 
 odd : (n : ℕ) (b : Bool) → ((2 * n + cond b 1 0) % 2 == 1) ≡ b
-odd n true = let e : (2 * n + 1) % 2 ≡ 1 = omega arith in ap (λ r. r == 1) e
-odd n false = let e : (2 * n + 0) % 2 ≡ 0 = omega arith in ap (λ r. r == 1) e
+odd n b = grind arith
 
 half : (n : ℕ) (b : Bool) → (2 * n + cond b 1 0) / 2 ≡ n
-half n true = omega arith
-half n false = omega arith
+half n b = grind arith
 
 told_at : (known : Known) (args : Trees) (i : ℕ) → positions_of (set_number known args) i ≡ positions_known known args i
-told_at known none i = nothing_at i
-told_at known (more t rest) zero = odd (set_number known rest) (is_known known t)
 told_at known (more t rest) (suc i) = ap (λ n. positions_of n i) (half (set_number known rest) (is_known known t)) ∙ told_at known rest i
+told_at known args i = grind (arith, nothing_at, odd)
 
 -- the number of known positions tells them
 pub positions_told : (known : Known) (args : Trees) → positions_of (set_number known args) ≡ positions_known known args
@@ -217,9 +214,8 @@ there : (numbers : List ℕ) (i n : ℕ) → slice_get numbers i ≡ Some n → 
 there numbers i n at = (i, (slice_get_within numbers i n at), (get_or_from_slice_get numbers i n n at))
 
 among_all : (rules : List Rule) (r : ℕ) (rule : Rule) (n : ℕ) → slice_get rules r ≡ Some rule → Contains (rule_places rule) n → Contains (all_places rules) n
-among_all [] r rule n at here = none_some rule at
-among_all (one ∷ rules) zero rule n at here = contains_left (rule_places one) (all_places rules) n (subst (λ x. Contains (rule_places x) n) (sym (some_same one rule at)) here)
 among_all (one ∷ rules) (suc r) rule n at here = contains_right (rule_places one) (all_places rules) n (among_all rules r rule n at here)
+among_all rules r rule n given here = grind (arith, none_some, contains_left, some_same)
 
 -- the numbers of a rule are in range
 pub rule_within : (clauses : List ClauseTree) (rules : List Rule) (marked : List Bool) (r : ℕ) (rule : Rule) → TellsBad clauses (all_places rules) marked → slice_get rules r ≡ Some rule
@@ -229,9 +225,8 @@ rule_within clauses rules marked r rule tells at =
 
 -- what is marked at a place of an image
 mapped_true : (marked : List Bool) (numbers : List ℕ) (i : ℕ) → slice_get (map (holds marked) numbers) i ≡ Some true → (n : ℕ) × (slice_get numbers i ≡ Some n) × (holds marked n ≡ true)
-mapped_true marked [] i is = none_some true is
-mapped_true marked (n ∷ numbers) zero is = (n, refl, some_same (holds marked n) true is)
 mapped_true marked (n ∷ numbers) (suc i) is = mapped_true marked numbers i is
+mapped_true marked numbers i is = grind (arith, none_some, some_same)
 
 places_size : (known : Known) (goals : List AtomTree) → length (places_of known goals) ≡ length goals
 places_size known [] = refl
@@ -256,10 +251,8 @@ marks_say clauses rules marked r rule marks tells at plain same = record {
 
 -- the marks of one rule more
 both_marks : (clauses : List ClauseTree) (rules : List Rule) (lists : List (List Bool)) (rule : Rule) (marks : List Bool) → AreAllMarks clauses rules lists → AreMarks clauses rule marks → AreAllMarks clauses (rules ++ rule ∷ []) (lists ++ marks ∷ [])
-both_marks clauses [] [] rule marks are now = (now, tt)
-both_marks clauses [] (ms ∷ lists) rule marks are now = absurd are
-both_marks clauses (q ∷ rules) [] rule marks are now = absurd are
 both_marks clauses (q ∷ rules) (ms ∷ lists) rule marks are now = (are.0, both_marks clauses rules lists rule marks are.1 now)
+both_marks clauses rules lists rule marks are now = grind arith
 
 pub one_more_marked : (clauses : List ClauseTree) (rules : List Rule) (r : ℕ) (rule : Rule) (old new : List (List Bool)) (marks : List Bool) → slice_get rules r ≡ Some rule
     → AreAllMarks clauses (take r rules) old → AreMarks clauses rule marks → new ≡ old ++ marks ∷ [] → AreAllMarks clauses (take (r + 1) rules) new
@@ -376,16 +369,14 @@ places_low preds known [] all = tt
 places_low preds known (goal ∷ goals) all = (place_low preds known goal all.0.plain all.0.declared, places_low preds (known_after known goal) goals all.1)
 
 zero_low : (size : ℕ) → 0 < size → (b : Bool) → AllByRecursion (λ n. n < size) (zero_unless b)
-zero_low size low true = tt
-zero_low size low false = (low, tt)
+zero_low size low b = grind arith
 
 callees_of_low : (preds pred : ℕ) (positions : Known) (clauses : List ClauseTree) → AllByRecursion (IsFineClause preds) clauses → AllByRecursion (λ n. n < preds * 256 + 1) (callees_of pred positions clauses)
 callees_of_low preds pred positions [] all = tt
 callees_of_low preds pred positions (clause ∷ clauses) all = grind (arith, both_all, places_low, zero_low, clause.head.args, clause.head.pred, clause.goals, all.0.goals, callees_of_low preds pred positions clauses all.1, all.1)
 
 pub callees_low : (preds : ℕ) (clauses : List ClauseTree) → AllByRecursion (IsFineClause preds) clauses → (n : ℕ) → AllByRecursion (λ m. m < preds * 256 + 1) (callees clauses n)
-callees_low preds clauses all zero = tt
-callees_low preds clauses all (suc n) = callees_of_low preds (n / 256) (positions_of (n % 256)) clauses all
+callees_low preds clauses all n = grind (arith, callees_of_low)
 
 pub all_low : (preds : ℕ) (rules : List Rule) → AllByRecursion (IsFineRule preds) rules → AllByRecursion (λ n. n < preds * 256 + 1) (all_places rules)
 all_low preds [] all = tt
