@@ -178,9 +178,7 @@ module _ (source : Source) (fault : Fault) where
       site_sound atoms site.from site.from.node.kind scope (via (sites_in source) atoms atom.from site.from atom.member site.member) refl site.given
 
   states_sound : (atoms : List RawAtom) → ((atom : RawAtom) → In atoms atom → In (scope_clashes source (atom ∷ [])) fault → IsScope source (atom ∷ [])) → In (state_clashes source atoms) fault → Mistyped source fault
-  states_sound atoms are h =
-      let atom = through (λ atom. scope_clashes source (atom ∷ [])) atoms fault h in
-      scope_sound (atom.from ∷ []) (are atom.from atom.member atom.given) atom.given
+  states_sound atoms are h = let atom = through (λ atom. scope_clashes source (atom ∷ [])) atoms fault h in scope_sound (atom.from ∷ []) (are atom.from atom.member atom.given) atom.given
 
   context_scope : (context : ContextItem) (atom : RawAtom) → In (contexts_of source) context → In context.atoms atom → IsScope source (atom ∷ [])
   context_scope context atom member h = state atom (to_contains (state_atoms source) atom (in_left (context_atoms source) (trace_atoms source) atom (via (λ context. context.atoms) (contexts_of source) context atom member h))) refl
@@ -209,24 +207,12 @@ module _ (source : Source) (fault : Fault) where
   site_found atoms site within h = grind (arith, through, via)
 
   state_among : (atom : RawAtom) → In (state_atoms source) atom → In (scope_clashes source (atom ∷ [])) fault → In (context_clashes source ++ trace_clashes source) fault
-  state_among atom member h = ⊎_elim
-      (λ a. let context = through (λ item. item.atoms) (contexts_of source) atom a in
-      in_left (context_clashes source) (trace_clashes source) fault (via (λ item. state_clashes source item.atoms) (contexts_of source) context.from fault context.member (via (λ one. scope_clashes source (one ∷ [])) context.from.atoms atom fault context.given h)))
-      (λ a. let trace = through (plain source) (traces_of source) atom a in
-      in_right (context_clashes source) (trace_clashes source) fault (via (λ item. state_clashes source (start_listed item.start)) (traces_of source) trace.from fault trace.member
-      (via (λ one. scope_clashes source (one ∷ [])) (start_listed trace.from.start) atom fault (from_filter (λ a. not (stands_for_context source a)) (start_listed trace.from.start) atom trace.given) h)))
-      (in_parts (context_atoms source) (trace_atoms source) atom member)
+  state_among atom member h = grind (arith, through, in_left, via, plain source, in_right, from_filter, in_parts (context_atoms source) (trace_atoms source) atom member, context_atoms source, trace_atoms source)
 
   scope_among : (atoms : List RawAtom) → IsScope source atoms → In (scope_clashes source atoms) fault → In (clashes_of source) fault
-  scope_among atoms (rule item within is) h =
-      in_left (rule_clashes source ++ clause_clashes source) _ fault (in_left (rule_clashes source) _ fault
-      (via (λ one. scope_clashes source (rule_scope one)) (rules_of source) item fault (from_contains (rules_of source) item within) (subst (λ (them : List RawAtom). In (scope_clashes source them) fault) is h)))
-  scope_among atoms (clause item within is) h =
-      in_left (rule_clashes source ++ clause_clashes source) _ fault (in_right (rule_clashes source) _ fault
-      (via (λ one. scope_clashes source (clause_scope one)) (clauses_of source) item fault (from_contains (clauses_of source) item within) (subst (λ (them : List RawAtom). In (scope_clashes source them) fault) is h)))
-  scope_among atoms (state atom within is) h =
-      in_right (rule_clashes source ++ clause_clashes source) _ fault
-      (state_among atom (from_contains (state_atoms source) atom within) (subst (λ (them : List RawAtom). In (scope_clashes source them) fault) is h))
+  scope_among atoms (rule item within is) h = grind (arith, in_left, via, from_contains (rules_of source) item within)
+  scope_among atoms (clause item within is) h = grind (arith, in_left, in_right, via, from_contains (clauses_of source) item within)
+  scope_among atoms (state atom within is) h = grind (arith, in_right, state_among, from_contains (state_atoms source) atom within)
 
   complete : Mistyped source fault → In (clashes_of source) fault
   complete (constructor atoms site con scope within shape is apart fault_is) =
