@@ -2,7 +2,6 @@
 use Rattle.std.proofs.Common.{◌≡◌, ℕ, zero, suc, ◌==◌, Bool, true, false, ◌&&◌, ◌||◌, not, if◌then◌else◌, List, [], ◌∷◌, ◌++◌, filter, refl, sym, ap, ◌∙◌, append_assoc, arith}
 use Rattle.std.specs.Str.{bytes_eq}
 use Rattle.std.specs.List.{flat_map, list_any}
-use Rattle.std.specs.Cmp.{both_ways}
 use Rattle.std.proofs.lemmas.Bool.{eqb-true, eq-eqb}
 use Rattle.std.proofs.lemmas.List.Elements.{filter-append}
 use Rattle.std.proofs.lemmas.Slice.Eq.{bytes_eq-Decides}
@@ -76,21 +75,7 @@ module _ (source : Source) where
 
   -- keys are equal if and only if two atoms are written alike
   pub keys_tell : (one other : RawAtom) → bytes_eq (atom_key source one) (atom_key source other) ≡ is_written_alike source one other
-  keys_tell one other = both_ways (bytes_eq (atom_key source one) (atom_key source other)) (is_written_alike source one other)
-      (λ e.
-      let same = (bytes_eq-Decides (atom_key source one) (atom_key source other)).0 e in
-      let first = name_again (said source one.name) (said source other.name) (count_key one.args ++ flat_map (node_key source) one.nodes) (count_key other.args ++ flat_map (node_key source) other.nodes) same in
-      let second = count_again one.args other.args (flat_map (node_key source) one.nodes) (flat_map (node_key source) other.nodes) first.1 in
-      both_hold (bytes_eq (said source one.name) (said source other.name) && (one.args == other.args)) (are_nodes_alike source one.nodes other.nodes)
-      (both_hold (bytes_eq (said source one.name) (said source other.name)) (one.args == other.args) (same_bytes (said source one.name) (said source other.name) first.0) (eq-eqb one.args other.args second.0))
-      (nodes_again one.nodes other.nodes second.1))
-      (λ alike.
-      let parts = both_true (bytes_eq (said source one.name) (said source other.name) && (one.args == other.args)) (are_nodes_alike source one.nodes other.nodes) alike in
-      let heads = both_true (bytes_eq (said source one.name) (said source other.name)) (one.args == other.args) parts.0 in
-      let name = (bytes_eq-Decides (said source one.name) (said source other.name)).0 heads.0 in
-      let count = eqb-true one.args other.args heads.1 in
-      let nodes = nodes_keyed one.nodes other.nodes parts.1 in
-      same_bytes (atom_key source one) (atom_key source other) (λ i. name_key (name i) ++ (count_key (count i) ++ nodes i)))
+  keys_tell one other = grind (arith, bytes_eq-Decides, name_again, count_again, both_hold, same_bytes, eq-eqb, nodes_again, both_true, eqb-true, nodes_keyed)
 
   -- Facts that count
 
