@@ -1,5 +1,5 @@
 -- Names that are declared, each in its space, and the first of those that are declared again.
-use Rattle.std.proofs.Common.{◌≡◌, ℕ, ◌+◌, Bool, true, false, not, cond, if◌then◌else◌, List, [], ◌∷◌, ◌++◌, map, length, Option, Some, None, is_some, Result, Ok, Err, OnOk, refl, ap, sym, subst, ◌∙◌, append_assoc, append-nil, arith, ◌⊎◌, ⊎_elim}
+use Rattle.std.proofs.Common.{◌≡◌, ℕ, ◌+◌, Bool, true, false, not, if◌then◌else◌, List, [], ◌∷◌, ◌++◌, map, length, Option, Some, None, is_some, Result, OnOk, refl, ap, sym, subst, ◌∙◌, append_assoc, append-nil, arith, ◌⊎◌, ⊎_elim}
 use Rattle.std.specs.List.{list_any, position_from, Contains}
 use Rattle.std.specs.Map.{lookup}
 use Rattle.std.specs.Str.{bytes_eq}
@@ -39,60 +39,36 @@ or_else (Some place) other = Some place
 -- a name at the end
 under_push : (test : List ℕ → Bool) (table : List (List ℕ × ℕ)) (name : List ℕ) (place : ℕ) → lookup test (table ++ (name, place) ∷ []) ≡ or_else (lookup test table) (if test name then Some place else None)
 under_push test [] name place = refl
-under_push test (entry ∷ table) name place = step (test entry.0) (under_push test table name place) where
-  step : (b : Bool) → lookup test (table ++ (name, place) ∷ []) ≡ or_else (lookup test table) (if test name then Some place else None)
-      → (if b then Some entry.1 else lookup test (table ++ (name, place) ∷ [])) ≡ or_else (if b then Some entry.1 else lookup test table) (if test name then Some place else None)
-  step true h = refl
-  step false h = h
+under_push test (entry ∷ table) name place = grind (arith, or_else, entry.0, under_push test table name place, entry.1)
 
 from_push : {X : Type 0} (p : X → Bool) (i : ℕ) (xs : List X) (y : X) → position_from p i (xs ++ y ∷ []) ≡ or_else (position_from p i xs) (if p y then Some (i + length xs) else None)
 from_push p i [] y = let none : i ≡ i + 0 = omega arith in ap (λ n. if p y then Some n else None) none
-from_push p i (x ∷ xs) y = step (p x) (from_push p (i + 1) xs y) where
-  on : i + 1 + length xs ≡ i + length (x ∷ xs)
-  on = omega arith
-
-  step : (b : Bool) → position_from p (i + 1) (xs ++ y ∷ []) ≡ or_else (position_from p (i + 1) xs) (if p y then Some (i + 1 + length xs) else None)
-      → cond b (Some i) (position_from p (i + 1) (xs ++ y ∷ [])) ≡ or_else (cond b (Some i) (position_from p (i + 1) xs)) (if p y then Some (i + length (x ∷ xs)) else None)
-  step true h = refl
-  step false h = h ∙ ap (λ n. or_else (position_from p (i + 1) xs) (if p y then Some n else None)) on
+from_push p i (x ∷ xs) y = grind (arith, or_else, from_push p (i + 1) xs y)
 
 among_push : (names : List Named) (n : Named) (name : List ℕ) → place_among (names ++ n ∷ []) name ≡ or_else (place_among names name) (if bytes_eq n.name name then Some (length names) else None)
-among_push names n name =
-    let none : 0 + length names ≡ length names = omega arith in
-    position_from-zero (λ other. bytes_eq other.name name) (names ++ n ∷ []) ∙ from_push (λ other. bytes_eq other.name name) 0 names n
-    ∙ ap (λ place. or_else (position_from (λ other. bytes_eq other.name name) 0 names) (if bytes_eq n.name name then Some place else None)) none
-    ∙ ap (λ o. or_else o (if bytes_eq n.name name then Some (length names) else None)) (sym (position_from-zero (λ other. bytes_eq other.name name) names))
+among_push names n name = grind (arith, position_from-zero, from_push, or_else)
 
 -- a name that is there keeps its place
 kept_by : (b : Bool) (found : Option ℕ) (place : ℕ) → (b ≡ true → is_some found ≡ true) → found ≡ or_else found (if b then Some place else None)
-kept_by b (Some s) place h = refl
-kept_by true None place h = absurd (let e = h refl in cc)
-kept_by false None place h = refl
+kept_by b found place h = grind arith
 
 is_not : (b other : Bool) → b ≡ not other → other ≡ not b
-is_not b true e = sym (ap not e)
-is_not b false e = sym (ap not e)
+is_not b other e = grind arith
 
 again_push : (before : List (List ℕ)) (names : List Named) (n : Named)
     → again_among before (names ++ n ∷ []) ≡ again_among before names ++ (if list_any (λ name. bytes_eq name n.name) (before ++ map (λ m. m.name) names) then wrong Twice n.at ∷ [] else [])
 again_push before [] n = append-nil _ ∙ ap (λ seen. if list_any (λ name. bytes_eq name n.name) seen then wrong Twice n.at ∷ [] else []) (sym (append-nil before))
-again_push before (m ∷ names) n =
-    ap (λ rest. (if list_any (λ name. bytes_eq name m.name) before then wrong Twice m.at ∷ [] else []) ++ rest)
-    (again_push (before ++ m.name ∷ []) names n ∙ ap (λ seen. again_among (before ++ m.name ∷ []) names ++ (if list_any (λ name. bytes_eq name n.name) seen then wrong Twice n.at ∷ [] else [])) (append_assoc before (m.name ∷ []) (map (λ m. m.name) names)))
-    ∙ sym (append_assoc (if list_any (λ name. bytes_eq name m.name) before then wrong Twice m.at ∷ [] else []) (again_among (before ++ m.name ∷ []) names) _)
+again_push before (m ∷ names) n = grind (arith, append_assoc, m.name, m.at, again_push (before ++ m.name ∷ []) names n, n.name, n.at)
 
 module _ {T : Type 0} (names : List Named) (n : Named) (old new : Table T) (are : IsTable names old) where
   is_there : has_name old.places n.name ≡ list_any (λ name. bytes_eq name n.name) (map (λ m. m.name) names)
   is_there = has_under old.places n.name ∙ ap is_some (are.places n.name) ∙ has_place names n.name ∙ sym (any_map (λ name. bytes_eq name n.name) (λ (m : Named). m.name) names)
 
   faults_after : (there : Bool) → has_name old.places n.name ≡ there → first_in (again_among [] (names ++ n ∷ [])) ≡ first_of (first_in (again_among [] names)) (first_in (if there then wrong Twice n.at ∷ [] else []))
-  faults_after there e =
-      ap first_in (again_push [] names n ∙ ap (λ b. again_among [] names ++ (if b then wrong Twice n.at ∷ [] else [])) (sym is_there ∙ e))
-      ∙ foremost_append standing (again_among [] names) (if there then wrong Twice n.at ∷ [] else [])
+  faults_after there e = grind (arith, again_push, is_there, foremost_append, there)
 
   no_more : (o : Option Fault) → o ≡ first_of o None
-  no_more None = refl
-  no_more (Some fault) = refl
+  no_more o = grind arith
 
   module _ (item : T) (place : ℕ) (pushed : new.items.items ≡ old.items.items ++ item ∷ []) (at : place ≡ length old.items.items) (added_is : new.places ≡ added old.places (n.name, place)) where
     count_after : length new.items.items ≡ length (names ++ n ∷ [])
@@ -133,19 +109,13 @@ pub named_more : {T : Type 0} (text : List ℕ) (span : T → Span) (old new : T
     → new.items.items ≡ old.items.items ++ item ∷ []
     → ((names : List Named) → IsTable names old → IsTable (names ++ record { name = name; at = at.from } ∷ []) new)
     → IsNamed text span old → IsNamed text span new
-named_more text span old new item at is name said pushed more were =
-    let before = map (λ item. named (text_alone text) (span item)) old.items.items in
-    subst (λ names. IsTable names new)
-    (ap (λ (name : List ℕ). before ++ record { name = name; at = at.from } ∷ []) said ∙ ap (λ span. before ++ named (text_alone text) span ∷ []) (sym is)
-    ∙ sym (ap (map (λ item. named (text_alone text) (span item))) pushed ∙ map-append (λ item. named (text_alone text) (span item)) old.items.items (item ∷ [])))
-    (more before were)
+named_more text span old new item at is name said pushed more were = grind (arith, map-append)
 
 pub none_named : {T : Type 0} (text : List ℕ) (span : T → Span) (table : Table T) → table.items.items ≡ [] → IsTable [] table → IsNamed text span table
 none_named {T} text span table none = subst (λ (items : List T). IsTable (map (λ item. named (text_alone text) (span item)) items) table) (sym none)
 
 pub both_ok : {T E P Q R : Type 0} (r : Result T E) → (P → Q → R) → OnOk r P → OnOk r Q → OnOk r R
-both_ok (Ok value) f p q = f p q
-both_ok (Err error) f p q = tt
+both_ok r f p q = grind arith
 
 -- The names of each space are those of the items that were gathered.
 
@@ -159,8 +129,7 @@ rule_alone : (source : Source) (unlabelled : ℕ) (label : Option Span) → rule
 rule_alone source unlabelled label = refl
 
 pub names_alone : (source : Source) (unlabelled : ℕ) (rules : List RuleItem) → rule_names_from (text_alone source.text) unlabelled rules ≡ rule_names_from source unlabelled rules
-names_alone source unlabelled [] = refl
-names_alone source unlabelled (rule ∷ rules) = grind (arith, rule_alone, source, rule.raw.label, rule.raw.at)
+names_alone source unlabelled rules = grind (arith, rule_alone, source)
 
 -- what is known of the names of a space
 pub record AreKnown (names : List Named) (table : List (List ℕ × ℕ)) (fault : Option Fault) : Type 0 where

@@ -1,5 +1,5 @@
 -- At which place of a list a name stands, and one rule more.
-use Rattle.std.proofs.Common.{◌≡◌, ℕ, ◌+◌, ◌<◌, Bool, true, false, not, List, [], ◌∷◌, ◌++◌, map, Some, None, Option, length, take, get_or, refl, ap, sym, subst, ◌∙◌, cond, nat_lt, arith}
+use Rattle.std.proofs.Common.{◌≡◌, ℕ, ◌+◌, ◌<◌, Bool, not, List, [], ◌∷◌, ◌++◌, map, Some, None, Option, length, take, get_or, refl, ap, sym, subst, ◌∙◌, cond, nat_lt, arith}
 use Rattle.std.specs.Option.{option_map, option_and_then}
 use Rattle.std.specs.List.{position, position_or_len, prefix_len, find, slice_get}
 use Rattle.std.specs.Str.{bytes_eq}
@@ -41,38 +41,24 @@ number_among entries name = position_map (λ n. bytes_eq name n) (λ entry. entr
 -- what is found first stands at its place
 module _ {X : Type 0} (p : X → Bool) (xs : List X) where
   at_place : (within : Bool) → nat_lt (position_or_len p xs) (length xs) ≡ within → (n : ℕ) → cond within (Some (position_or_len p xs)) None ≡ Some n → find p xs ≡ slice_get xs n
-  at_place true e n is = find_at p xs ∙ ap (slice_get xs) (the is) where
-    the : Some (position_or_len p xs) ≡ Some n → position_or_len p xs ≡ n
-    the s = cc
-  at_place false e n is = absurd (apart is) where
-    apart : None ≡ Some n → ⊥
-    apart s = cc
+  at_place within e n is = grind (arith, find_at)
 
   pub found_at : (n : ℕ) → position p xs ≡ Some n → find p xs ≡ slice_get xs n
   found_at n is = at_place (nat_lt (position_or_len p xs) (length xs)) refl n is
 
   past : (within : Bool) → nat_lt (position_or_len p xs) (length xs) ≡ within → cond within (Some (position_or_len p xs)) None ≡ None → find p xs ≡ None
-  past true e is = absurd (apart is) where
-    apart : Some (position_or_len p xs) ≡ None → ⊥
-    apart s = cc
-  past false e is = find_at p xs ∙ slice_get_past xs (position_or_len p xs) (ltb-false (position_or_len p xs) (length xs) e)
+  past within e is = grind (arith, find_at, slice_get_past, ltb-false)
 
   pub found_nowhere : position p xs ≡ None → find p xs ≡ None
   found_nowhere is = past (nat_lt (position_or_len p xs) (length xs)) refl is
 
 -- what is found first stands at its place
 found_placed : {X : Type 0} (p : X → Bool) (xs : List X) → option_and_then (slice_get xs) (position p xs) ≡ find p xs
-found_placed p xs = cases (position p xs) refl where
-  cases : (place : Option ℕ) → position p xs ≡ place → option_and_then (slice_get xs) (position p xs) ≡ find p xs
-  cases None e = ap (option_and_then (slice_get xs)) e ∙ sym (found_nowhere p xs e)
-  cases (Some n) e = ap (option_and_then (slice_get xs)) e ∙ sym (found_at p xs n e)
+found_placed p xs = grind (arith, found_nowhere, found_at)
 
 found_map : {X Y : Type 0} (p : Y → Bool) (item : X → Y) (xs : List X) → option_map item (find (λ x. p (item x)) xs) ≡ find p (map item xs)
 found_map p item [] = refl
-found_map p item (x ∷ xs) = step (p (item x)) (found_map p item xs) where
-  step : (b : Bool) → option_map item (find (λ y. p (item y)) xs) ≡ find p (map item xs) → option_map item (cond b (Some x) (find (λ y. p (item y)) xs)) ≡ cond b (Some (item x)) (find p (map item xs))
-  step true h = refl
-  step false h = h
+found_map p item (x ∷ xs) = grind (arith, found_map p item xs)
 
 -- the item that is declared first of a name
 pub told : {X Y : Type 0} (source : Source) (item : X → Y) (span : Y → Span) (table : Table X) (all : List Y) (name : List ℕ) → map item table.items.items ≡ all
@@ -91,8 +77,7 @@ taken P xs i x h at = subst P (sym (take_more xs i x h ∙ ap (λ y. take i xs +
 -- one more item of a loop that adds its image
 pub push_map : {X Y : Type 0} (f : X → Y) (xs : List X) (i : ℕ) (d : X) (old new : List Y) (y : Y) → i < length xs
     → old ≡ map f (take i xs) → y ≡ f (get_or xs i d) → new ≡ old ++ y ∷ [] → new ≡ map f (take (i + 1) xs)
-push_map f xs i d old new y h was is_y is =
-    is ∙ ap (λ ys. ys ++ y ∷ []) was ∙ ap (λ z. map f (take i xs) ++ z ∷ []) is_y ∙ sym (ap (map f) (take_more xs i d h) ∙ map-append f (take i xs) (get_or xs i d ∷ []))
+push_map f xs i d old new y h was is_y is = grind (arith, take_more xs i d h, map-append f (take i xs) (get_or xs i d ∷ []))
 
 -- One rule more, and its name.
 
