@@ -1,5 +1,5 @@
 -- Gaps, one byte on, with lines and columns.
-use Rattle.std.proofs.Common.{◌≡◌, ◌≢◌, ℕ, ◌+◌, ◌<◌, ◌==◌, cond, get_or, take, List, [], ◌∷◌, ◌++◌, length, refl, sym, ap, ◌∙◌, inl, inr, arith, append_assoc, append-nil, length-append, not, eqb, ◌≤◌, Bool, true, false, IsTrue, drop, subst, take-append-drop, length-take-le}
+use Rattle.std.proofs.Common.{◌≡◌, ◌≢◌, ℕ, ◌+◌, ◌<◌, ◌==◌, get_or, take, List, [], ◌∷◌, ◌++◌, length, refl, sym, ap, ◌∙◌, inl, arith, append_assoc, append-nil, length-append, not, eqb, ◌≤◌, Bool, true, false, IsTrue, drop, subst, take-append-drop, length-take-le}
 use Rattle.std.specs.List.{count_by}
 use Rattle.std.proofs.lemmas.Bool.{eq-eqb, ne_eqb, eqb-true, not-false, true≢false}
 use Rattle.std.proofs.lemmas.List.{take_more, drop_at, drop_more, take_all}
@@ -25,32 +25,15 @@ place_start = record { lines = []; bytes = []; cut = refl; ended = inl refl; unb
 
 pub no_bytes : (earlier : List ℕ) (pos : Pos) → IsPlaceAfter earlier pos → IsPlaceAfter (earlier ++ []) pos
 no_bytes earlier pos place = rw (append-nil earlier) place
-
 abbrev breaks : List ℕ → ℕ
 breaks bytes = count_by (λ byte. byte == 10) bytes
 
 -- the place after a byte
 after_break : (earlier : List ℕ) (byte : ℕ) (pos : Pos) → byte ≡ 10 → IsPlaceAfter earlier pos → IsPlaceAfter (earlier ++ byte ∷ []) (record { line = pos.line + 1; col = 1 })
-after_break earlier byte pos is place = record {
-  lines = earlier ++ 10 ∷ [];
-  bytes = [];
-  cut = ap (λ b. earlier ++ b ∷ []) is ∙ sym (append-nil (earlier ++ 10 ∷ []));
-  ended = inr (earlier, refl);
-  unbroken = tt;
-  line = let more = sum_by_push (λ b. cond (b == 10) 1 0) earlier byte ∙ ap (λ b. breaks earlier + cond b 1 0) (eq-eqb byte 10 is) in omega (arith, place.line, more);
-  col = refl;
-}
+after_break earlier byte pos is place = grind (arith, append-nil (earlier ++ 10 ∷ []), sum_by_push, breaks earlier, eq-eqb byte 10 is)
 
 after_more : (earlier : List ℕ) (byte : ℕ) (pos : Pos) → byte ≢ 10 → IsPlaceAfter earlier pos → IsPlaceAfter (earlier ++ byte ∷ []) (record { line = pos.line; col = pos.col + 1 })
-after_more earlier byte pos is place = record {
-  lines = place.lines;
-  bytes = place.bytes ++ byte ∷ [];
-  cut = ap (λ b. b ++ byte ∷ []) place.cut ∙ append_assoc place.lines place.bytes (byte ∷ []);
-  ended = place.ended;
-  unbroken = unbroken_push place.bytes byte place.unbroken is;
-  line = let more = sum_by_push (λ b. cond (b == 10) 1 0) earlier byte ∙ ap (λ b. breaks earlier + cond b 1 0) (ne_eqb byte 10 is) in omega (arith, place.line, more);
-  col = let s = length-append place.bytes (byte ∷ []) in omega (arith, place.col);
-}
+after_more earlier byte pos is place = grind (arith, append_assoc, unbroken_push, sum_by_push, breaks, ne_eqb, length-append)
 
 module _ (earlier bytes : List ℕ) (i : ℕ) where
   on : (pos : Pos) → i < length bytes → IsPlaceAfter ((earlier ++ take i bytes) ++ get_or bytes i 0 ∷ []) pos → IsPlaceAfter (earlier ++ take (i + 1) bytes) pos
@@ -58,7 +41,6 @@ module _ (earlier bytes : List ℕ) (i : ℕ) where
 
   pub place_break : (pos : Pos) → i < length bytes → get_or bytes i 0 ≡ 10 → IsPlaceAfter (earlier ++ take i bytes) pos → IsPlaceAfter (earlier ++ take (i + 1) bytes) (record { line = pos.line + 1; col = 1 })
   place_break pos within is place = on _ within (after_break (earlier ++ take i bytes) _ pos is place)
-
   pub place_more : (pos : Pos) → i < length bytes → get_or bytes i 0 ≢ 10 → IsPlaceAfter (earlier ++ take i bytes) pos → IsPlaceAfter (earlier ++ take (i + 1) bytes) (record { line = pos.line; col = pos.col + 1 })
   place_more pos within is place = on _ within (after_more (earlier ++ take i bytes) _ pos is place)
 
@@ -101,8 +83,7 @@ open_closed bytes is = subst IsGap (sym (ap (λ b. b ++ 10 ∷ []) is.cut ∙ ap
 
 -- what stands at the end, in a comment or outside
 pub gap_ended : (in_comment : Bool) (bytes : List ℕ) → IsGapSoFar in_comment bytes → IsLastGap bytes
-gap_ended true bytes is = inr (is.gap, is.body, is.cut, is.apart, is.unbroken)
-gap_ended false bytes is = inl is
+gap_ended in_comment bytes is = grind arith
 
 -- the bytes up to the next place
 at_next : (P : List ℕ → Type 0) (bytes : List ℕ) (i : ℕ) → i < length bytes → P (take i bytes ++ get_or bytes i 0 ∷ []) → P (take (i + 1) bytes)
@@ -117,16 +98,14 @@ in_comment_next bytes i true false within is goes so_far =
 
 -- `%` outside comments
 pub comment_next : (bytes : List ℕ) (i : ℕ) (in_comment after : Bool) → i < length bytes → in_comment ≡ false → after ≡ true → get_or bytes i 0 ≡ 37 → IsGapSoFar in_comment (take i bytes) → IsGapSoFar after (take (i + 1) bytes)
-comment_next bytes i true after within is goes percent so_far = cc
-comment_next bytes i false false within is goes percent so_far = cc
 comment_next bytes i false true within is goes percent so_far =
     at_next IsOpen bytes i within (subst (λ b. IsOpen (take i bytes ++ b ∷ [])) (sym percent) (gap_opened (take i bytes) so_far))
+comment_next bytes i in_comment after within is goes percent so_far = cc
 
 -- a separator outside comments
 pub separator_next : (bytes : List ℕ) (i : ℕ) (in_comment after : Bool) → i < length bytes → in_comment ≡ false → after ≡ in_comment → is_separator (get_or bytes i 0) ≡ true → IsGapSoFar in_comment (take i bytes) → IsGapSoFar after (take (i + 1) bytes)
-separator_next bytes i true after within is goes separates so_far = cc
-separator_next bytes i false true within is goes separates so_far = cc
 separator_next bytes i false false within is goes separates so_far = at_next IsGap bytes i within (gap_separator (take i bytes) _ so_far separates)
+separator_next bytes i in_comment after within is goes separates so_far = cc
 
 -- a byte outside comments that is in no gap
 pub gap_found : (bytes : List ℕ) (i : ℕ) (in_comment : Bool) → i < length bytes → in_comment ≡ false → is_separator (get_or bytes i 0) ≡ false → get_or bytes i 0 ≢ 37 → IsGapSoFar in_comment (take i bytes) → IsGapLength bytes i
@@ -140,8 +119,7 @@ gap_whole bytes i in_comment within so_far = all refl (gap_ended in_comment byte
 
 -- nothing but a gap, where it is as long as the bytes
 pub gap_all : (bytes : List ℕ) (size : ℕ) → IsGapLength bytes size → size ≡ length bytes → IsLastGap bytes
-gap_all bytes size (all whole last) is = last
-gap_all bytes size (before gap byte behind cut short apart no_separator no_comment) is = absurd (omega (arith, ap length cut, length-append gap (byte ∷ behind)))
+gap_all bytes size given is = grind (arith, length-append)
 
 -- a gap before a byte that is in none
 pub record IsGapBefore (bytes : List ℕ) (size : ℕ) : Type 0 where
@@ -156,5 +134,4 @@ pub record IsGapBefore (bytes : List ℕ) (size : ℕ) : Type 0 where
   pub no_comment : byte ≢ 37
 
 pub gap_before : (bytes : List ℕ) (size : ℕ) → IsGapLength bytes size → size < length bytes → IsGapBefore bytes size
-gap_before bytes size (all whole last) is = absurd (omega arith)
-gap_before bytes size (before gap byte behind cut short apart no_separator no_comment) is = record { gap = gap; byte = byte; behind = behind; cut = cut; is = sym short; next = ap (drop size) cut ∙ drop_at gap (byte ∷ behind) size (sym short); apart = apart; no_separator = no_separator; no_comment = no_comment }
+gap_before bytes size given is = grind (arith, drop_at)

@@ -6,7 +6,7 @@ use Rattle.std.specs.Char.{is_ascii_alphabetic, is_ascii_digit, is_ascii_lowerca
 use Rattle.std.proofs.lemmas.Bool.{or_left, or_right, or_from, and_left, and_parts, leb-true, lt-leb, eqb-true, cases_lt, cases_eq, eq-eqb, true≢false, and_right, false_from_ne_true}
 use Rattle.cep_base.specs.Spelling.{is_name_byte}
 use Rattle.cep_lex.specs.declared.token.TokenKind.{TokenKind}
-use Rattle.cep_lex.specs.declared.token.TokenKind.TheVariants.{Name, Variable, Blank, Number, Directive, Colon, Dot, Comma, Star, Dollar, Equals, Open, Close, OpenBrace, CloseBrace, Lolli, Back, KwType, KwPred, KwBwd, KwFact, KwStage, KwContext, KwQui}
+use Rattle.cep_lex.specs.declared.token.TokenKind.TheVariants.{Name, Variable, Number, Directive, KwType, KwPred, KwBwd, KwFact, KwStage, KwContext, KwQui}
 use Rattle.cep_lex.specs.declared.words.Class.{Class}
 use Rattle.cep_lex.specs.declared.words.Class.TheVariants.{Letter, Digit, Hash, Pair, Mark, Other}
 use Rattle.cep_lex.specs.Fronts.{class, IsFront, mark_class, BeginsWith, IsLetters, IsGapLength, IsShortLength, IsLongLength}
@@ -34,9 +34,7 @@ run_is_within p (b ∷ run) rest pass = let more = run_is_within p run rest pass
 
 -- one more byte, where it passes
 longest_run_from : (p : ℕ → Bool) (b : ℕ) (bytes : List ℕ) (passes : Bool) → p b ≡ passes → Pass p (take (prefix_len p bytes) bytes) → Pass p (take (cond passes (1 + prefix_len p bytes) 0) (b ∷ bytes))
-longest_run_from p b bytes true is more =
-    let e : 1 + prefix_len p bytes ≡ suc (prefix_len p bytes) = omega arith in rw e (is, more)
-longest_run_from p b bytes false is more = tt
+longest_run_from p b bytes passes is more = grind arith
 
 -- the longest run passes
 pub longest_run : (p : ℕ → Bool) (bytes : List ℕ) → Pass p (take (prefix_len p bytes) bytes)
@@ -63,9 +61,7 @@ pub record IsShaped (word : List ℕ) : Type 0 where
 
 -- a digit is no letter
 no_letter : (byte : ℕ) → is_ascii_digit byte ≡ true → is_ascii_alphabetic byte ≡ false
-no_letter byte digit =
-    let below : byte ≤ 57 = leb-true byte 57 (and_parts (nat_le 48 byte) (nat_le byte 57) digit).1 in
-    or_from _ _ (and_left _ _ (lt-leb 65 byte (omega arith))) (and_left _ _ (lt-leb 97 byte (omega arith)))
+no_letter byte digit = grind (arith, leb-true, and_parts, or_from, and_left, lt-leb)
 
 -- the class of a digit
 pub digit_class : (byte : ℕ) → is_ascii_digit byte ≡ true → class byte ≡ Digit
@@ -86,30 +82,7 @@ run_shaped first next class' (byte ∷ run) is follows runs = record { byte = by
 
 -- each token has such a shape
 pub shaped : (kind : TokenKind) (word : List ℕ) → SpellsToken kind word → IsShaped word
-shaped Name word h = run_shaped is_ascii_lowercase is_name_byte Letter word (λ byte lower. letter_class byte (or_right _ _ lower)) (λ run some pass size. pass) h.0
-shaped Variable word h = run_shaped is_ascii_uppercase is_name_byte Letter word (λ byte upper. letter_class byte (or_left _ _ upper)) (λ run some pass size. pass) h
-shaped Number word h = run_shaped is_ascii_digit is_ascii_digit Digit word digit_class (λ run some pass size. pass) h
-shaped Directive word h = run_shaped (λ byte. byte == 35) is_ascii_alphabetic Hash word hash_class (λ run some pass size. (pass, omega (arith, h.1))) h.0
-shaped Blank word h = record { byte = 95; run = []; is = h; follows = refl }
-shaped Colon word h = record { byte = 58; run = []; is = h; follows = refl }
-shaped Dot word h = record { byte = 46; run = []; is = h; follows = refl }
-shaped Comma word h = record { byte = 44; run = []; is = h; follows = refl }
-shaped Star word h = record { byte = 42; run = []; is = h; follows = refl }
-shaped Dollar word h = record { byte = 36; run = []; is = h; follows = refl }
-shaped Equals word h = record { byte = 61; run = []; is = h; follows = refl }
-shaped Open word h = record { byte = 40; run = []; is = h; follows = refl }
-shaped Close word h = record { byte = 41; run = []; is = h; follows = refl }
-shaped OpenBrace word h = record { byte = 123; run = []; is = h; follows = refl }
-shaped CloseBrace word h = record { byte = 125; run = []; is = h; follows = refl }
-shaped Lolli word h = record { byte = 45; run = codes "o"; is = h; follows = refl }
-shaped Back word h = record { byte = 60; run = codes "-"; is = h; follows = refl }
-shaped KwType word h = record { byte = 116; run = codes "ype"; is = h; follows = (refl, (refl, (refl, tt))) }
-shaped KwPred word h = record { byte = 112; run = codes "red"; is = h; follows = (refl, (refl, (refl, tt))) }
-shaped KwBwd word h = record { byte = 98; run = codes "wd"; is = h; follows = (refl, (refl, tt)) }
-shaped KwFact word h = record { byte = 102; run = codes "act"; is = h; follows = (refl, (refl, (refl, tt))) }
-shaped KwStage word h = record { byte = 115; run = codes "tage"; is = h; follows = (refl, (refl, (refl, (refl, tt)))) }
-shaped KwContext word h = record { byte = 99; run = codes "ontext"; is = h; follows = (refl, (refl, (refl, (refl, (refl, (refl, tt)))))) }
-shaped KwQui word h = record { byte = 113; run = codes "ui"; is = h; follows = (refl, (refl, tt)) }
+shaped kind word h = grind (arith, run_shaped, letter_class, or_right, or_left, digit_class, hash_class)
 
 -- the most bytes of a token after its first
 abbrev pub most_behind : Class → List ℕ → ℕ
@@ -122,12 +95,7 @@ most_behind Other tail = 0
 
 -- no more bytes follow than these
 follows_within : (c : Class) (run rest : List ℕ) → Follows c run → length run ≤ most_behind c (run ++ rest)
-follows_within Letter run rest follows = run_is_within is_name_byte run rest follows
-follows_within Digit run rest follows = run_is_within is_ascii_digit run rest follows
-follows_within Hash run rest follows = run_is_within is_ascii_alphabetic run rest follows.0
-follows_within (Pair kind second) run rest follows = let e = ap length follows in omega arith
-follows_within (Mark kind) run rest follows = let e = ap length follows in omega arith
-follows_within Other run rest follows = absurd follows
+follows_within c run rest follows = grind (arith, run_is_within)
 
 -- a token at the front, with its shape there
 pub record IsShapedAt (byte : ℕ) (tail word rest : List ℕ) : Type 0 where
@@ -137,25 +105,17 @@ pub record IsShapedAt (byte : ℕ) (tail word rest : List ℕ) : Type 0 where
   pub follows : Follows (class byte) run
 
 pub shaped_at : (byte : ℕ) (tail : List ℕ) (kind : TokenKind) (word rest : List ℕ) → byte ∷ tail ≡ word ++ rest → SpellsToken kind word → IsShapedAt byte tail word rest
-shaped_at byte tail kind word rest cut spelled =
-    let shape = shaped kind word spelled in
-    let e : byte ∷ tail ≡ shape.byte ∷ (shape.run ++ rest) = cut ∙ ap (λ w. w ++ rest) shape.is in
-    let same : shape.byte ≡ byte = cc in
-    record { run = shape.run; is = shape.is ∙ ap (λ b. b ∷ shape.run) same; split = cc; follows = subst (λ b. Follows (class b) shape.run) same shape.follows }
+shaped_at byte tail kind word rest cut spelled = grind (arith, shaped)
 
 -- no token at the front is longer
 pub shaped_within : (byte : ℕ) (tail word rest : List ℕ) → IsShapedAt byte tail word rest → length word ≤ suc (most_behind (class byte) tail)
-shaped_within byte tail word rest shape =
-    let within = follows_within (class byte) shape.run rest shape.follows in
-    let size = ap length shape.is in
-    rw shape.split (omega arith)
+shaped_within byte tail word rest shape = grind (arith, follows_within)
 
 -- The longest token at the front of bytes.
 
 -- bytes of which there are some are the first and those after it
 first_and_tail : (bytes : List ℕ) → 0 < length bytes → bytes ≡ get_or bytes 0 0 ∷ drop 1 bytes
-first_and_tail [] some = absurd (omega arith)
-first_and_tail (byte ∷ tail) some = refl
+first_and_tail bytes some = grind arith
 
 -- a token at the front, by the first byte
 shaped_front : (bytes : List ℕ) → 0 < length bytes → (kind : TokenKind) (word rest : List ℕ) → bytes ≡ word ++ rest → SpellsToken kind word → IsShapedAt (get_or bytes 0 0) (drop 1 bytes) word rest
@@ -168,15 +128,13 @@ front_from bytes kind size some is within spelled = record {
   within = within;
   spelled = spelled;
   longest = λ kind' other rest cut spells.
-      let whole : bytes ≡ other ++ rest = sym (take-append-drop size bytes) ∙ cut in
-      let most = shaped_within _ _ other rest (shaped_front bytes some kind' other rest whole spells) in
+      let most = shaped_within _ _ other rest (shaped_front bytes some kind' other rest (sym (take-append-drop size bytes) ∙ cut) spells) in
       rw (length-take-le size bytes within) (omega arith);
 }
 
 -- where nothing can follow the first byte, no token begins
 pub no_front : (bytes : List ℕ) → 0 < length bytes → ((run rest : List ℕ) → drop 1 bytes ≡ run ++ rest → Follows (class (get_or bytes 0 0)) run → ⊥) → BeginsNoToken bytes
-no_front bytes some nothing kind word rest cut spelled =
-    let shape = shaped_front bytes some kind word rest cut spelled in nothing shape.run rest shape.split shape.follows
+no_front bytes some nothing kind word rest cut spelled = grind (arith, shaped_front bytes some kind word rest cut spelled)
 
 -- the bytes after the first, as they are passed on
 pub tail_is : (bytes : List ℕ) → take (length bytes - 1) (drop 1 bytes) ≡ drop 1 bytes
@@ -184,29 +142,19 @@ tail_is bytes = take_rest bytes 1
 
 -- the longest run after the first byte ends within the bytes
 pub run_within : (p : ℕ → Bool) (bytes : List ℕ) (size : ℕ) → 0 < length bytes → size ≡ prefix_len p (take (length bytes - 1) (drop 1 bytes)) → 1 + size ≤ length bytes
-run_within p [] size some is = absurd (omega arith)
-run_within p (byte ∷ tail) size some is =
-    let most = prefix_len-le-length p tail in
-    let e : size ≡ prefix_len p tail = is ∙ ap (prefix_len p) (tail_is (byte ∷ tail)) in omega arith
+run_within p bytes size some is = grind (arith, prefix_len-le-length, tail_is)
 
 -- a first byte and the longest run after it
 pub run_word : (first p : ℕ → Bool) (bytes : List ℕ) (size : ℕ) → 0 < length bytes → first (get_or bytes 0 0) ≡ true → size ≡ prefix_len p (take (length bytes - 1) (drop 1 bytes)) → Runs first p (take (1 + size) bytes)
-run_word first p [] size some passes is = absurd (omega arith)
-run_word first p (byte ∷ tail) size some passes is =
-    let e : size ≡ prefix_len p tail = is ∙ ap (prefix_len p) (tail_is (byte ∷ tail)) in
-    let s : 1 + size ≡ suc size = omega arith in
-    rw s (passes, subst (λ n. Pass p (take n tail)) (sym e) (longest_run p tail))
+run_word first p bytes size some passes is = grind (arith, tail_is, longest_run)
 
 -- a token that is a first byte and the longest run of those that may follow it
 pub run_front : (p : ℕ → Bool) (told : Class) (bytes : List ℕ) (kind : TokenKind) (size : ℕ) → 0 < length bytes → class (get_or bytes 0 0) ≡ told → ((tail : List ℕ) → most_behind told tail ≡ prefix_len p tail) → size ≡ prefix_len p (take (length bytes - 1) (drop 1 bytes)) → SpellsToken kind (take (1 + size) bytes) → IsFront bytes kind (1 + size)
-run_front p told bytes kind size some is most size_is spelled =
-    let e : size ≡ most_behind (class (get_or bytes 0 0)) (drop 1 bytes) = size_is ∙ ap (prefix_len p) (tail_is bytes) ∙ sym (ap (λ c. most_behind c (drop 1 bytes)) is ∙ most (drop 1 bytes)) in
-    front_from bytes kind (1 + size) some (ap (λ n. 1 + n) e) (run_within p bytes size some size_is) spelled
+run_front p told bytes kind size some is most size_is spelled = grind (arith, most_behind (class (get_or bytes 0 0)) (drop 1 bytes), tail_is bytes, most_behind, front_from, run_within p bytes size some size_is)
 
 -- the first byte alone spells a token
 pub mark_spelled : (bytes : List ℕ) (kind : TokenKind) → 0 < length bytes → SpellsToken kind (get_or bytes 0 0 ∷ []) → SpellsToken kind (take 1 bytes)
-mark_spelled [] kind some spelled = absurd (omega arith)
-mark_spelled (byte ∷ tail) kind some spelled = spelled
+mark_spelled bytes kind some spelled = grind arith
 
 -- Each text has its tokens, or a first fault.
 
@@ -217,11 +165,7 @@ HasGap bytes = (size : ℕ) × IsGapLength bytes size
 
 -- a byte in a comment, and one outside
 in_comment : (front : List ℕ) (byte : ℕ) (bytes : List ℕ) → IsOpen front → ((commented : Bool) → IsGapSoFar commented (front ++ byte ∷ []) → HasGap ((front ++ byte ∷ []) ++ bytes)) → HasGap ((front ++ byte ∷ []) ++ bytes)
-in_comment front byte bytes open_ rest =
-    ⊎_elim
-    (λ (ends : byte ≡ 10). rest false (subst (λ b. IsGap (front ++ b ∷ [])) (sym ends) (open_closed front open_)))
-    (λ (other : byte ≢ 10). rest true (open_more front byte open_ other))
-    (cases_eq byte 10)
+in_comment front byte bytes open_ rest = ⊎_elim (λ (ends : byte ≡ 10). rest false (subst (λ b. IsGap (front ++ b ∷ [])) (sym ends) (open_closed front open_))) (λ (other : byte ≢ 10). rest true (open_more front byte open_ other)) (cases_eq byte 10)
 
 outside : (front : List ℕ) (byte : ℕ) (bytes : List ℕ) (separates : Bool) → is_separator byte ≡ separates → IsGap front → ((commented : Bool) → IsGapSoFar commented (front ++ byte ∷ []) → HasGap ((front ++ byte ∷ []) ++ bytes)) → HasGap ((front ++ byte ∷ []) ++ bytes)
 outside front byte bytes true separates gap rest = rest false (gap_separator front byte gap separates)
@@ -237,8 +181,7 @@ gap_behind true front (byte ∷ bytes) so_far = subst HasGap (append_assoc front
 gap_behind false front (byte ∷ bytes) so_far = subst HasGap (append_assoc front (byte ∷ []) bytes) (outside front byte bytes (is_separator byte) refl so_far (λ commented so. gap_behind commented (front ++ byte ∷ []) bytes so))
 
 gap_within : (bytes : List ℕ) (size : ℕ) → IsGapLength bytes size → size ≤ length bytes
-gap_within bytes size (all whole last) = omega arith
-gap_within bytes size (before gap byte behind cut short apart no_separator no_comment) = omega (arith, ap length cut, length-append gap (byte ∷ behind))
+gap_within bytes size given = grind (arith, length-append)
 
 -- ---- the token at the front
 
@@ -249,10 +192,7 @@ abbrev IsSpelled : List ℕ → Type 0
 IsSpelled word = (kind : TokenKind) × SpellsToken kind word
 
 same_word : (word other : List ℕ) → (word ≡ other) ⊎ (word ≢ other)
-same_word word other = by (bytes_eq word other) refl where
-  by : (b : Bool) → bytes_eq word other ≡ b → (word ≡ other) ⊎ (word ≢ other)
-  by true e = inl ((bytes_eq-Decides word other).0 e)
-  by false e = inr (λ same. absurd (true≢false (sym ((bytes_eq-Decides word other).1 same) ∙ e)))
+same_word word other = grind (arith, bytes_eq-Decides word other)
 
 -- a word that a lower-case letter begins is a reserved word or a name
 lower_word : (word : List ℕ) → Runs is_ascii_lowercase is_name_byte word → IsSpelled word
@@ -271,34 +211,12 @@ letter_word (byte ∷ run) letters = by (is_ascii_uppercase byte) refl where
 
 -- what the class of a first byte says of it
 told_if : (told other : Class) (byte n : ℕ) → (byte ≡ n → BeginsWith told byte) → BeginsWith other byte → BeginsWith (if byte == n then told else other) byte
-told_if told other byte n is rest = by (byte == n) refl where
-  by : (b : Bool) → (byte == n) ≡ b → BeginsWith (if b then told else other) byte
-  by true e = is (eqb-true byte n e)
-  by false e = rest
+told_if told other byte n is rest = grind (arith, eqb-true)
 
 mark_told : (byte : ℕ) → BeginsWith (mark_class byte) byte
-mark_told byte =
-    told_if Hash _ byte 35 (λ e. e)
-    (told_if (Pair Lolli 111) _ byte 45 (λ e. ap (λ b. b ∷ 111 ∷ []) e)
-    (told_if (Pair Back 45) _ byte 60 (λ e. ap (λ b. b ∷ 45 ∷ []) e)
-    (told_if (Mark Blank) _ byte 95 (λ e. ap (λ b. b ∷ []) e)
-    (told_if (Mark Colon) _ byte 58 (λ e. ap (λ b. b ∷ []) e)
-    (told_if (Mark Dot) _ byte 46 (λ e. ap (λ b. b ∷ []) e)
-    (told_if (Mark Comma) _ byte 44 (λ e. ap (λ b. b ∷ []) e)
-    (told_if (Mark Star) _ byte 42 (λ e. ap (λ b. b ∷ []) e)
-    (told_if (Mark Dollar) _ byte 36 (λ e. ap (λ b. b ∷ []) e)
-    (told_if (Mark Equals) _ byte 61 (λ e. ap (λ b. b ∷ []) e)
-    (told_if (Mark Open) _ byte 40 (λ e. ap (λ b. b ∷ []) e)
-    (told_if (Mark Close) _ byte 41 (λ e. ap (λ b. b ∷ []) e)
-    (told_if (Mark OpenBrace) _ byte 123 (λ e. ap (λ b. b ∷ []) e)
-    (told_if (Mark CloseBrace) Other byte 125 (λ e. ap (λ b. b ∷ []) e) tt)))))))))))))
-
+mark_told byte = grind (arith, told_if)
 class_told : (byte : ℕ) → BeginsWith (class byte) byte
-class_told byte = by (is_ascii_alphabetic byte) (is_ascii_digit byte) refl refl where
-  by : (letter digit : Bool) → is_ascii_alphabetic byte ≡ letter → is_ascii_digit byte ≡ digit → BeginsWith (if letter then Letter else (if digit then Digit else mark_class byte)) byte
-  by true digit l d = l
-  by false true l d = d
-  by false false l d = mark_told byte
+class_told byte = grind (arith, mark_told byte)
 
 -- the bytes after the first, as a run is looked for there
 abbrev tail_of : List ℕ → List ℕ
@@ -331,9 +249,7 @@ hash_token bytes size some is hash size_is =
 
 pair_token : (bytes : List ℕ) (kind : TokenKind) (second : ℕ) → 0 < length bytes → class (get_or bytes 0 0) ≡ Pair kind second → SpellsToken kind (get_or bytes 0 0 ∷ second ∷ []) → HasFront bytes
 pair_token [] kind second some is spelled = absurd (omega arith)
-pair_token (byte ∷ []) kind second some is spelled = inr (no_front (byte ∷ []) some (λ run rest cut follows.
-    let f : run ≡ second ∷ [] = subst (λ c. Follows c run) is follows in
-    let e : [] ≡ second ∷ rest = cut ∙ ap (λ r. r ++ rest) f in cc))
+pair_token (byte ∷ []) kind second some is spelled = grind (arith, no_front)
 pair_token (byte ∷ next ∷ bytes) kind second some is spelled =
     ⊎_elim
     (λ (same : next ≡ second). inl (kind, 2, front_from (byte ∷ next ∷ bytes) kind 2 some (ap (λ c. 1 + most_behind c (next ∷ bytes)) (sym is)) (omega arith) (subst (λ n. SpellsToken kind (byte ∷ n ∷ [])) (sym same) spelled)))
@@ -355,9 +271,7 @@ front_of bytes some = by (class (get_or bytes 0 0)) refl (class_told (get_or byt
 -- ---- token by token
 
 is_number : (kind : TokenKind) → (kind ≡ Number) ⊎ (kind ≢ Number)
-is_number Number = inl refl
-is_number kind = inr (λ e. cc)
-
+is_number kind = grind arith
 short_or_long : (kind : TokenKind) (size : ℕ) → IsShortLength kind size ⊎ IsLongLength kind size
 short_or_long kind size = ⊎_elim (λ number. inl (inl number)) (λ other. ⊎_elim (λ long. inr (other, long)) (λ short. inl (inr short)) (cases_lt MOST_NAME size)) (is_number kind)
 
@@ -431,36 +345,7 @@ lower_not_upper byte lower = let above : 97 ≤ byte = leb-true 97 byte (and_par
 
 -- a word spells the one kind
 spelled_kind : (kind : TokenKind) (word : List ℕ) → SpellsToken kind word → kind_of word ≡ kind
-spelled_kind Name [] h = absurd h.0
-spelled_kind Name (byte ∷ run) h =
-    rw (letter_class byte (or_right _ _ h.0.0), lower_not_upper byte h.0.0)
-    (rw (differs _ _ h.1.0, differs _ _ h.1.1.0, differs _ _ h.1.1.1.0, differs _ _ h.1.1.1.1.0, differs _ _ h.1.1.1.1.1.0, differs _ _ h.1.1.1.1.1.1.0, differs _ _ h.1.1.1.1.1.1.1.0) refl)
-spelled_kind Variable [] h = absurd h
-spelled_kind Variable (byte ∷ run) h = rw (letter_class byte (or_left _ _ h.0), h.0) refl
-spelled_kind Number [] h = absurd h
-spelled_kind Number (byte ∷ run) h = rw (digit_class byte h.0) refl
-spelled_kind Directive [] h = absurd h.0
-spelled_kind Directive (byte ∷ run) h = rw (hash_class byte h.0.0) refl
-spelled_kind Blank word h = ap kind_of h
-spelled_kind Colon word h = ap kind_of h
-spelled_kind Dot word h = ap kind_of h
-spelled_kind Comma word h = ap kind_of h
-spelled_kind Star word h = ap kind_of h
-spelled_kind Dollar word h = ap kind_of h
-spelled_kind Equals word h = ap kind_of h
-spelled_kind Open word h = ap kind_of h
-spelled_kind Close word h = ap kind_of h
-spelled_kind OpenBrace word h = ap kind_of h
-spelled_kind CloseBrace word h = ap kind_of h
-spelled_kind Lolli word h = ap kind_of h
-spelled_kind Back word h = ap kind_of h
-spelled_kind KwType word h = ap kind_of h
-spelled_kind KwPred word h = ap kind_of h
-spelled_kind KwBwd word h = ap kind_of h
-spelled_kind KwFact word h = ap kind_of h
-spelled_kind KwStage word h = ap kind_of h
-spelled_kind KwContext word h = ap kind_of h
-spelled_kind KwQui word h = ap kind_of h
+spelled_kind kind word h = grind (arith, letter_class, or_right, lower_not_upper, differs, or_left, digit_class, hash_class, kind_of)
 
 pub same_kind : (one other : TokenKind) (word : List ℕ) → SpellsToken one word → SpellsToken other word → one ≡ other
 same_kind one other word is is' = sym (spelled_kind one word is) ∙ spelled_kind other word is'

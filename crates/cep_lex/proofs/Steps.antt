@@ -1,5 +1,5 @@
 -- What stands at a place of the text, and the tokens before it.
-use Rattle.std.proofs.Common.{◌≡◌, ℕ, ◌+◌, ◌-◌, ◌<◌, ◌≤◌, List, [], ◌∷◌, ◌++◌, length, take, drop, refl, sym, ap, subst, ◌∙◌, ⊎_elim, inl, inr, arith, length-append, length-drop, length-take-le, take-append-drop}
+use Rattle.std.proofs.Common.{◌≡◌, ℕ, ◌+◌, ◌-◌, ◌<◌, ◌≤◌, List, [], ◌∷◌, ◌++◌, length, take, drop, sym, ap, subst, ◌∙◌, ⊎_elim, inl, inr, arith, length-append, length-drop, length-take-le, take-append-drop}
 use Rattle.std.proofs.lemmas.List.{drop-drop, take_rest}
 use Rattle.cep_lex.specs.declared.token.Token.{Token}
 use Rattle.cep_lex.specs.declared.token.TokenKind.{TokenKind}
@@ -10,28 +10,16 @@ use Rattle.cep_lex.proofs.GapLemmas.{IsGapBefore, gap_before, gap_all}
 
 -- a token takes its bytes
 pub length_start : (at : ℕ) (bytes : List ℕ) (token : Token) (behind : List ℕ) → StartsWith at bytes token behind → token.to + length behind ≡ at + length bytes
-length_start at bytes token behind is =
-    let cut = ap length is.split.cut in
-    let one = length-append is.gap (is.word ++ behind) in
-    let two = length-append is.word behind in
-    omega (arith, is.from, is.to)
+length_start at bytes token behind is = grind (arith, length-append)
 
 -- a further token, cut from the rest
 pub cut_more : (at : ℕ) (bytes : List ℕ) (tokens : List Token) (rest : List ℕ) (from : ℕ) (token : Token) (behind : List ℕ) → Cuts at bytes tokens rest → from + length rest ≡ at + length bytes → StartsWith from rest token behind → Cuts at bytes (tokens ++ token ∷ []) behind
-cut_more at bytes [] rest from token behind cut place starts =
-    let same : from ≡ at = omega (arith, ap length cut) in
-    (behind, subst (λ f. StartsWith f bytes token behind) same (subst (λ b. StartsWith from b token behind) (sym cut) starts), refl)
-cut_more at bytes (first ∷ tokens) rest from token behind cut place starts =
-    (cut.0, cut.1, cut_more first.to cut.0 tokens rest from token behind cut.2 (place ∙ sym (length_start at bytes first cut.0 cut.1)) starts)
+cut_more at bytes [] rest from token behind cut place starts = grind arith
+cut_more at bytes (first ∷ tokens) rest from token behind cut place starts = grind (arith, length_start, cut.0, cut.1, cut_more first.to cut.0 tokens rest from token behind cut.2 (place ∙ sym (length_start at bytes first cut.0 cut.1)) starts, first.to, cut.2)
 
 -- the token at the front of what stands after a gap
 pub split_front : (bytes : List ℕ) (gap : ℕ) (kind : TokenKind) (size : ℕ) (before : IsGapBefore bytes gap) → IsFront (drop gap bytes) kind size → Splits bytes before.gap kind (take size (drop gap bytes)) (drop size (drop gap bytes))
-split_front bytes gap kind size before front = record {
-  cut = before.cut ∙ ap (λ b. before.gap ++ b) (sym before.next ∙ sym (take-append-drop size (drop gap bytes)));
-  apart = before.apart;
-  spelled = front.spelled;
-  longest = front.longest;
-}
+split_front bytes gap kind size before front = record { cut = before.cut ∙ ap (λ b. before.gap ++ b) (sym before.next ∙ sym (take-append-drop size (drop gap bytes))); apart = before.apart; spelled = front.spelled; longest = front.longest; }
 
 -- a word of a short length is short
 short_text : (kind : TokenKind) (size : ℕ) (word : List ℕ) → length word ≡ size → IsShortLength kind size → IsShort kind word
@@ -47,15 +35,11 @@ behind_gap P text at gap is = subst P (take_rest text (at + gap) ∙ sym (drop-d
 
 -- nothing but a gap is left
 pub end_here : (text : List ℕ) (at gap : ℕ) → at ≤ length text → at + gap ≡ length text → IsGapLength (take (length text - at) (drop at text)) gap → IsLastGap (drop at text)
-end_here text at gap within is apart =
-    gap_all (drop at text) gap (from_here (λ b. IsGapLength b gap) text at apart) (let s = length-drop at text in omega arith)
+end_here text at gap within is apart = gap_all (drop at text) gap (from_here (λ b. IsGapLength b gap) text at apart) (let s = length-drop at text in omega arith)
 
 -- a gap that does not end the text stops before its end
 pub gap_stops : (text : List ℕ) (at gap : ℕ) → at ≤ length text → gap ≤ length (take (length text - at) (drop at text)) → (at + gap ≡ length text → ⊥) → at + gap < length text
-gap_stops text at gap within most differs =
-    let e = ap length (take_rest text at) in
-    let s = length-drop at text in
-    omega (arith, differs)
+gap_stops text at gap within most differs = grind (arith, take_rest, length-drop)
 
 module _ (text : List ℕ) (at gap : ℕ) (within : at + gap < length text) (apart_there : IsGapLength (take (length text - at) (drop at text)) gap) where
   apart : IsGapLength (drop at text) gap
@@ -71,22 +55,7 @@ module _ (text : List ℕ) (at gap : ℕ) (within : at + gap < length text) (apa
 
   -- a byte that begins no token is the fault of the text
   pub bad_byte_here : BeginsNoToken (take (length text - (at + gap)) (drop (at + gap) text)) → (tokens : List Token) → Cuts 0 text tokens (drop at text) → IsBadByte text (at + gap)
-  bad_byte_here no_token tokens cut =
-      let here = gap_here in
-      record {
-        tokens = tokens;
-        rest = drop at text;
-        gap = here.gap;
-        byte = here.byte;
-        behind = here.behind;
-        cut = cut;
-        found = here.cut;
-        apart = here.apart;
-        no_separator = here.no_separator;
-        no_comment = here.no_comment;
-        no_token = subst BeginsNoToken here.next (behind_gap BeginsNoToken text at gap no_token);
-        place = ap (λ b. at + gap + length b) (sym here.next) ∙ left_here;
-      }
+  bad_byte_here no_token tokens cut = grind (arith, gap_here, apart, behind_gap BeginsNoToken text, left_here)
 
   -- so is a name that is too long
   pub long_name_here : (kind : TokenKind) (size : ℕ) → IsFront (take (length text - (at + gap)) (drop (at + gap) text)) kind size → IsLongLength kind size → (tokens : List Token) → Cuts 0 text tokens (drop at text) → IsNameLong text (at + gap)
@@ -123,10 +92,7 @@ module _ (text : List ℕ) (at gap : ℕ) (within : at + gap < length text) (apa
 
   -- its end is in the text
   pub token_ends : (kind : TokenKind) (size : ℕ) → IsFront (take (length text - (at + gap)) (drop (at + gap) text)) kind size → (at < at + gap + size) × (at + gap + size ≤ length text)
-  token_ends kind size front_there =
-      let front : IsFront (drop gap (drop at text)) kind size = behind_gap (λ b. IsFront b kind size) text at gap front_there in
-      let s = left_here in
-      (omega (arith, front.some), omega (arith, front.within))
+  token_ends kind size front_there = let front : IsFront (drop gap (drop at text)) kind size = behind_gap (λ b. IsFront b kind size) text at gap front_there in let s = left_here in (omega (arith, front.some), omega (arith, front.within))
 
 -- what stands after a token that ends in the text
 pub cut_next : (text : List ℕ) (at : ℕ) (tokens : List Token) (token : Token) → at ≤ length text → Cuts 0 text tokens (drop at text) → StartsWith at (drop at text) token (drop token.to text) → Cuts 0 text (tokens ++ token ∷ []) (drop token.to text)

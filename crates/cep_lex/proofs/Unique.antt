@@ -1,5 +1,5 @@
 -- What stands after a gap is a function of the bytes, and a text has one list of tokens at most, or one first fault.
-use Rattle.std.proofs.Common.{◌≡◌, ℕ, ◌==◌, ◌||◌, Bool, true, false, cond, List, [], ◌∷◌, ◌++◌, refl, sym, ap, subst, ◌∙◌, ⊎_elim, append_assoc, ◌+◌, length, take, drop, Result, Ok, Err, arith}
+use Rattle.std.proofs.Common.{◌≡◌, ℕ, ◌==◌, Bool, true, false, cond, List, [], ◌∷◌, ◌++◌, refl, sym, ap, subst, ◌∙◌, ⊎_elim, append_assoc, ◌+◌, length, take, drop, Result, Ok, Err, arith}
 use Rattle.std.proofs.lemmas.Bool.{or_cases, eqb-true, ne_eqb, false_from_ne_true}
 use Rattle.std.proofs.lemmas.List.{append-nil, append_cancel_right}
 use Rattle.cep_base.specs.Spelling.{IsUnbroken}
@@ -24,8 +24,7 @@ behind_gap false (byte ∷ bytes) = cond (byte == 37) (behind_gap true bytes) (c
 
 -- a byte is one of the separators
 separator_is : (byte : ℕ) → is_separator byte ≡ true → (P : ℕ → Type 0) → P 32 → P 9 → P 13 → P 10 → P byte
-separator_is byte separates P space tab cr lf =
-    ⊎_elim (λ front. ⊎_elim (λ front'. ⊎_elim (λ e. subst P (sym (eqb-true byte 32 e)) space) (λ e. subst P (sym (eqb-true byte 9 e)) tab) (or_cases (byte == 32) (byte == 9) front')) (λ e. subst P (sym (eqb-true byte 13 e)) cr) (or_cases (byte == 32 || byte == 9) (byte == 13) front)) (λ e. subst P (sym (eqb-true byte 10 e)) lf) (or_cases (byte == 32 || byte == 9 || byte == 13) (byte == 10) separates)
+separator_is byte separates P space tab cr lf = grind (arith, eqb-true, or_cases)
 
 -- a comment up to its LF
 skip_comment : (body rest : List ℕ) → IsUnbroken body → behind_gap true (body ++ 10 ∷ rest) ≡ behind_gap false rest
@@ -40,37 +39,27 @@ skip_open (byte ∷ body) unbroken = rw (ne_eqb byte 10 unbroken.0) (skip_open b
 -- a gap
 skip_gap : (gap rest : List ℕ) → IsGap gap → behind_gap false (gap ++ rest) ≡ behind_gap false rest
 skip_gap gap rest empty = refl
-skip_gap gap rest (separator byte gap' separates is) =
-    rw (separator_is byte separates (λ b. (b == 37) ≡ false) refl refl refl refl, separates) (skip_gap gap' rest is)
-skip_gap gap rest (comment body gap' unbroken is) =
-    ap (behind_gap true) (append_assoc body (10 ∷ gap') rest) ∙ skip_comment body (gap' ++ rest) unbroken ∙ skip_gap gap' rest is
+skip_gap gap rest (separator byte gap' separates is) = grind (arith, separator_is, skip_gap gap' rest is)
+skip_gap gap rest (comment body gap' unbroken is) = grind (arith, behind_gap, append_assoc, skip_comment, skip_gap gap' rest is)
 
 -- a gap that ends the text
 pub skip_last : (bytes : List ℕ) → IsLastGap bytes → behind_gap false bytes ≡ []
-skip_last bytes is =
-    ⊎_elim
-    (λ gap. ap (behind_gap false) (sym (append-nil bytes)) ∙ skip_gap bytes [] gap)
-    (λ open_. ap (behind_gap false) open_.2 ∙ skip_gap open_.0 (37 ∷ open_.1) open_.3 ∙ skip_open open_.1 open_.4) is
+skip_last bytes is = grind (arith, behind_gap false, append-nil bytes, skip_gap, skip_open)
 
 -- a byte that is in no gap stands after it
 pub skip_to : (bytes gap : List ℕ) (byte : ℕ) (rest : List ℕ) → bytes ≡ gap ++ byte ∷ rest → IsGap gap → (is_separator byte ≡ true → ⊥) → (byte ≡ 37 → ⊥) → behind_gap false bytes ≡ byte ∷ rest
-skip_to bytes gap byte rest cut apart no_separator no_comment =
-    ap (behind_gap false) cut ∙ skip_gap gap (byte ∷ rest) apart ∙ rw (ne_eqb byte 37 no_comment, false_from_ne_true _ no_separator) refl
+skip_to bytes gap byte rest cut apart no_separator no_comment = grind (arith, behind_gap, skip_gap, ne_eqb, false_from_ne_true)
 
 -- the first byte of a token is in no gap
 first_no_separator : (byte : ℕ) (run : List ℕ) → Follows (class byte) run → is_separator byte ≡ true → ⊥
-first_no_separator byte run follows separates =
-    separator_is byte separates (λ b. Follows (class b) run → ⊥) (λ h. h) (λ h. h) (λ h. h) (λ h. h) follows
+first_no_separator byte run follows separates = separator_is byte separates (λ b. Follows (class b) run → ⊥) (λ h. h) (λ h. h) (λ h. h) (λ h. h) follows
 
 first_no_comment : (byte : ℕ) (run : List ℕ) → Follows (class byte) run → byte ≡ 37 → ⊥
 first_no_comment byte run follows is = let h : Follows (class 37) run = subst (λ b. Follows (class b) run) is follows in h
 
 -- a token stands after its gap
 pub skip_to_token : (bytes gap : List ℕ) (kind : TokenKind) (word rest : List ℕ) → Splits bytes gap kind word rest → behind_gap false bytes ≡ word ++ rest
-skip_to_token bytes gap kind word rest is =
-    let shape = shaped kind word is.spelled in
-    let cut : word ++ rest ≡ shape.byte ∷ (shape.run ++ rest) = ap (λ w. w ++ rest) shape.is in
-    skip_to bytes gap shape.byte (shape.run ++ rest) (is.cut ∙ ap (λ b. gap ++ b) cut) is.apart (first_no_separator shape.byte shape.run shape.follows) (first_no_comment shape.byte shape.run shape.follows) ∙ sym cut
+skip_to_token bytes gap kind word rest is = grind (arith, shaped, skip_to, first_no_separator, first_no_comment)
 
 -- A text has one list of tokens at most, or one first fault.
 
@@ -111,10 +100,8 @@ same_start : (at : ℕ) (bytes : List ℕ) (one other : Token) (behind behind' :
 same_start at bytes one other behind behind' is is' =
     let same = same_front _ (front_of bytes is.gap one.kind is.word behind is.split) (front_of bytes is'.gap other.kind is'.word behind' is'.split) in
     let rest = sym (skip_to_token bytes is.gap one.kind is.word behind is.split) ∙ skip_to_token bytes is'.gap other.kind is'.word behind' is'.split in
-    let gap : is.gap ≡ is'.gap = same_gap bytes is.gap is'.gap _ _ is.split.cut is'.split.cut rest in
-    let from : one.from ≡ other.from = is.from ∙ ap (λ g. at + length g) gap ∙ sym is'.from in
-    let to : one.to ≡ other.to = is.to ∙ (λ i. from i + length (same.1 i)) ∙ sym is'.to in
-    (same_token one other same.0 from to, same.2)
+    let from : one.from ≡ other.from = is.from ∙ ap (λ g. at + length g) (same_gap bytes is.gap is'.gap _ _ is.split.cut is'.split.cut rest) ∙ sym is'.from in
+    (same_token one other same.0 from (is.to ∙ (λ i. from i + length (same.1 i)) ∙ sym is'.to), same.2)
 
 -- a long token is no short one
 long_or_short : (kind : TokenKind) (word : List ℕ) → IsShort kind word → IsTooLong kind word → ⊥
@@ -122,9 +109,7 @@ long_or_short kind word short long = ⊎_elim (λ number. long.0 number) (λ wit
 
 -- bytes that begin with a token are some
 front_some : (bytes : List ℕ) → IsAtFront bytes → bytes ≡ [] → ⊥
-front_some bytes front none =
-    let shape = shaped front.kind front.word front.spelled in
-    let e : [] ≡ shape.byte ∷ (shape.run ++ front.rest) = sym none ∙ front.cut ∙ ap (λ w. w ++ front.rest) shape.is in cc
+front_some bytes front none = grind (arith, shaped)
 
 -- how the cutting ends, at the rest
 abbrev Ends : ℕ → List Token → List ℕ → Result (List Token) LexFault → Type 0
@@ -150,12 +135,7 @@ is_cut text (Err (NameLong at)) is =
 
 -- no further token can be cut from such a rest
 is_stuck : (size : ℕ) (tokens : List Token) (rest : List ℕ) (answer : Result (List Token) LexFault) → Ends size tokens rest answer → (at : ℕ) (token : Token) (behind : List ℕ) → StartsWith at rest token behind → ⊥
-is_stuck size tokens rest (Ok all) ends at token behind starts = front_some _ (front_of rest starts.gap token.kind starts.word behind starts.split) ends.1
-is_stuck size tokens rest (Err (BadByte place)) ends at token behind starts =
-    let front = front_of rest starts.gap token.kind starts.word behind starts.split in ends.1 front.kind front.word front.rest front.cut front.spelled
-is_stuck size tokens rest (Err (NameLong place)) ends at token behind starts =
-    let same = same_front _ ends.0 (front_of rest starts.gap token.kind starts.word behind starts.split) in
-    long_or_short token.kind starts.word starts.short (subst (λ w. IsTooLong token.kind w) same.1 (subst (λ k. IsTooLong k (ends.0).word) same.0 ends.1))
+is_stuck size tokens rest answer ends at token behind starts = grind (arith, front_some, front_of rest starts.gap token.kind starts.word behind starts.split, same_front, long_or_short)
 
 -- two cuttings that end so are the same
 same_cuts : (at : ℕ) (bytes : List ℕ) (tokens others : List Token) (rest rest' : List ℕ)
@@ -172,15 +152,7 @@ same_cuts at bytes (token ∷ tokens) (token' ∷ others) rest rest' stuck stuck
 
 -- one cutting ends in one way
 same_end : (size : ℕ) (tokens : List Token) (rest : List ℕ) (one other : Result (List Token) LexFault) → Ends size tokens rest one → Ends size tokens rest other → one ≡ other
-same_end size tokens rest (Ok all) (Ok all') is is' = ap Ok (is.0 ∙ sym is'.0)
-same_end size tokens rest (Ok all) (Err (BadByte at)) is is' = absurd (is'.0 is.1)
-same_end size tokens rest (Ok all) (Err (NameLong at)) is is' = absurd (front_some _ is'.0 is.1)
-same_end size tokens rest (Err (BadByte at)) (Ok all) is is' = absurd (is.0 is'.1)
-same_end size tokens rest (Err (BadByte at)) (Err (BadByte at')) is is' = let e : at ≡ at' = omega (arith, is.2, is'.2) in ap (λ a. Err (BadByte a)) e
-same_end size tokens rest (Err (BadByte at)) (Err (NameLong at')) is is' = absurd (is.1 (is'.0).kind (is'.0).word (is'.0).rest (is'.0).cut (is'.0).spelled)
-same_end size tokens rest (Err (NameLong at)) (Ok all) is is' = absurd (front_some _ is.0 is'.1)
-same_end size tokens rest (Err (NameLong at)) (Err (BadByte at')) is is' = absurd (is'.1 (is.0).kind (is.0).word (is.0).rest (is.0).cut (is.0).spelled)
-same_end size tokens rest (Err (NameLong at)) (Err (NameLong at')) is is' = let e : at ≡ at' = omega (arith, is.2, is'.2) in ap (λ a. Err (NameLong a)) e
+same_end size tokens rest one other is is' = grind (arith, front_some)
 
 -- a text is lexed in one way
 pub lexed_one : (text : List ℕ) (one other : Result (List Token) LexFault) → IsLexed text one → IsLexed text other → one ≡ other
