@@ -17,8 +17,7 @@ use Rattle.cep_infer.specs.Places.{ArePlaces, ArePlaceLists}
 use Rattle.std.specs.Str.{bytes_eq}
 use Rattle.cep_source.specs.Variables.{Occurrence, firsts_beside}
 use Rattle.cep_types.specs.Heads.{variable_of}
-use Rattle.cep_ground.proofs.GroupLaws.{place, position_there, place_within}
-use Rattle.cep_ground.proofs.Wanted.{same_bytes, bytes_same, is_any}
+use Rattle.cep_ground.proofs.NameLaws.{place, position_there, place_within, same_bytes, bytes_same, is_any}
 
 -- Places further on in a text have a greater line, or the same one and no lesser column.
 

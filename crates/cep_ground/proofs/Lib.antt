@@ -1,14 +1,8 @@
-pub mod Known
-pub mod Wanted
 pub mod Scopes
 pub mod RuleParts
-pub mod VariableKinds
 pub mod Programs
-pub mod Declared
 pub mod EarliestPlaces
-pub mod Ungrounded
 pub mod StateAtoms
 pub mod NameLaws
-pub mod GroupLaws
 pub mod OneAnswer
 pub mod Refused

@@ -1,43 +1,63 @@
 -- The names of a text: each is declared once; they are few, and names of a program.
-use Rattle.std.proofs.Common.{◌≡◌, ◌≢◌, List, [], ◌∷◌, ◌++◌, map, refl, sym, subst, append_assoc, Contains, Bool, true, false, ◌||◌, ◌⊎◌, inl, inr, ⊎_elim, ℕ, zero, suc, ◌+◌, ◌*◌, ◌≤◌, length, filter, arith, length-append, ◌-◌, take, drop, ap, ◌∙◌, get_or, ◌<◌, ◌^◌, IsTrue, not, if◌then◌else◌}
-use Rattle.std.specs.List.{AllByRecursion, find, list_any, AllZip}
+use Rattle.std.proofs.Common.{◌≡◌, ◌≢◌, List, [], ◌∷◌, ◌++◌, map, refl, sym, subst, append_assoc, Contains, Bool, true, false, ◌||◌, ◌⊎◌, inl, inr, ⊎_elim, ℕ, zero, suc, ◌+◌, ◌*◌, ◌≤◌, length, filter, arith, length-append, ◌-◌, take, drop, ap, ◌∙◌, get_or, ◌<◌, ◌^◌, IsTrue, not, if◌then◌else◌, ◌%◌}
+use Rattle.std.specs.List.{AllByRecursion, find, list_any, AllZip, position, position_or_len, flat_map}
 use Rattle.cep_rule.specs.Names.{AllDiffer, IsName, IsVariableName, IsWord, AreNames}
 use Rattle.cep_source.specs.declared.space.Space.{Space}
-use Rattle.cep_refusal.specs.declared.reason.Reason.TheVariants.{Twice, OverLimit}
+use Rattle.cep_refusal.specs.declared.reason.Reason.TheVariants.{Twice, OverLimit, Unknown, WrongKind, WrongArity, BadQui}
 use Rattle.cep_refusal.specs.declared.fault.Fault.{Fault}
-use Rattle.cep_source.specs.Items.{Source, said, PredItem, ConItem, RuleItem, declares, sorts_of, preds_of, cons_in, cons_of, stages_of, rules_of}
-use Rattle.cep_source.specs.Spaces.{Named, names_in, named, rule_name, unlabelled_behind, rule_names_from}
+use Rattle.cep_source.specs.Items.{Source, said, PredItem, ConItem, RuleItem, declares, sorts_of, preds_of, cons_in, cons_of, stages_of, rules_of, ClauseItem, clauses_of}
+use Rattle.cep_source.specs.Spaces.{Named, names_in, named, rule_name, unlabelled_behind, rule_names_from, is_in, pred_named, con_named}
 use Rattle.cep_source.specs.Spaces.IsTwice.{again}
-use Rattle.cep_faults.specs.Misnamed.{Misnamed}
+use Rattle.cep_faults.specs.Misnamed.{Misnamed, IsQuiRule}
 use Rattle.cep_refusal.specs.First.{wrong}
-use Rattle.cep_faults.specs.Misnamed.Misnamed.{twice, over}
-use Rattle.cep_base.proofs.Elements.{contains_first, contains_behind, contains_cases, all_at}
-use Rattle.std.specs.Prelude.{Option, Some, cond, slice_get, codes, decimal, ◌==◌}
+use Rattle.cep_faults.specs.Misnamed.Misnamed.{twice, over, unknown, wrong_kind, wrong_arity, wrong_term_arity, bad_qui}
+use Rattle.cep_base.proofs.Elements.{contains_first, contains_behind, contains_cases, all_at, contains_left, contains_right, contains_map, contains_flat, contains_none, flat_cases, map_cases}
+use Rattle.std.specs.Prelude.{Option, Some, cond, slice_get, codes, decimal, ◌==◌, unwrap_or, None, ◌↔◌, IsSome, IfSome}
 use Rattle.cep_parse.specs.declared.raw.RawAtom.{RawAtom}
-use Rattle.cep_parse.specs.Raw.{raw_nodes}
+use Rattle.cep_parse.specs.Raw.{raw_nodes, atoms_of}
+use Rattle.cep_base.proofs.Lists.{none_some}
 pub use Rattle.cep_base.proofs.Lists.{all_flat, all_filtered as all_filter}
 use Rattle.std.proofs.Math.Seq.{drop-append_seam, take-append_seam}
 use Rattle.std.specs.Char.{is_ascii_uppercase}
 use Rattle.cep_base.specs.Spelling.{is_name_byte}
 use Rattle.cep_lex.specs.declared.token.Token.{Token}
 use Rattle.cep_lex.specs.declared.token.TokenKind.{TokenKind}
-use Rattle.cep_lex.specs.declared.token.TokenKind.TheVariants as token
 use Rattle.cep_lex.specs.Words.{SpellsToken, IsShort, Runs}
 use Rattle.cep_lex.specs.Cuts.{Cuts, StartsWith}
 use Rattle.cep_parse.specs.Symbols.{slice_of}
 use Rattle.cep_parse.specs.declared.raw.Span.{Span}
-use Rattle.cep_parse.specs.Written.{IsTokenAt, IsNameAt, IsLabelOf, IsRuleOf, IsItemOf}
+use Rattle.cep_parse.specs.Written.{IsTokenAt, IsNameAt, IsLabelOf, IsRuleOf, IsItemOf, Fill, IsCount}
 use Rattle.cep_infer.specs.Shapes.{IsSource}
-use Rattle.std.proofs.lemmas.Fmt.{decimal_is_IsNumeral, length-decimal-le}
+use Rattle.std.proofs.lemmas.Fmt.{decimal_is_IsNumeral, length-decimal-le, decimal_injective}
 use Rattle.std.proofs.lemmas.Str.Parse.{digit_from_value}
-use Rattle.std.proofs.lemmas.Bool.{le-leb}
+use Rattle.std.proofs.lemmas.Bool.{le-leb, eqb-true, eqb-false, lt-ltb}
 use Rattle.std.specs.Int.{IsInRange}
 use Rattle.std.specs.Str.Parse.{AllDigits}
 use Rattle.cep_parse.specs.declared.raw.RawItem.{RawItem}
-use Rattle.cep_parse.specs.declared.raw.RawItem.TheVariants as item
-use Rattle.cep_source.specs.declared.space.Space.TheVariants as space
 use Rattle.cep_faults.specs.Limits.{IsOver as overs}
 use Rattle.cep_ground.specs.Texts.{IsClean}
+use Rattle.std.specs.Str.{bytes_eq}
+use Rattle.cep_parse.specs.declared.raw.RawNode.{RawNode}
+use Rattle.cep_source.specs.Uses.{needed_atoms, made_atoms, clause_atoms, state_atoms, atoms_written, applied_at, uses_in, stages_named}
+use Rattle.std.specs.Option.{option_map}
+use Rattle.std.proofs.lemmas.Slice.Eq.{bytes_eq-Decides}
+use Rattle.std.proofs.lemmas.List.{length-map}
+use Rattle.cep_parse.specs.declared.raw.RawKind.{RawKind}
+use Rattle.cep_source.specs.Variables.{Occurrence, occurrence_at, blanks_behind, occurrences_from, firsts_beside}
+use Rattle.cep_types.specs.Sites.{Site, Wanted, pred_types, node_types, sites_from, wanted_from}
+pub use Rattle.cep_types.proofs.Meeting.{wanted_both}
+use Rattle.std.proofs.lemmas.List.Recursion.{is_position_or_len}
+use Rattle.cep_types.specs.Heads.{number_of}
+use Rattle.std.proofs.Math.Nat.{mul-add-mod_self_left}
+use Rattle.cep_parse.specs.declared.raw.RawRule.{RawRule}
+use Rattle.cep_infer.specs.Meaning.{stage_named, group_of, next_of, IsRuleBy}
+use Rattle.cep_rule.specs.declared.rule.Rule.{Rule}
+use Rattle.cep_rule.specs.Program.{IsGroupedRule}
+use Rattle.cep_base.proofs.Bytes.{any_map}
+use Rattle.cep_lex.specs.declared.token.TokenKind.TheVariants as token
+use Rattle.cep_parse.specs.declared.raw.RawItem.TheVariants as item
+use Rattle.cep_source.specs.declared.space.Space.TheVariants as space
+use Rattle.cep_parse.specs.declared.raw.RawKind.TheVariants as kind
 
 -- Names that are declared once differ.
 
@@ -362,3 +382,360 @@ module _ (source : Source) (clean : IsClean source) (items : AllByRecursion (IsI
     each = rule_names_are 0 (rules_of source) (let few = rules_few in omega (arith, few)) (λ rule there. there);
     differ = names_differ source clean.names space.Rules;
   }
+
+-- In a text whose names are in order, each name that is used is declared, with the number of arguments with which it is used.
+
+-- the names of the source are in order
+abbrev pub AreNamesClean : Source → Type 0
+AreNamesClean source = (fault : Fault) → ¬ (Misnamed source fault)
+
+-- a name that is used is in its space, since else no space would have it
+nowhere : (source : Source) (space other : Space) (name : Span) → AreNamesClean source → Contains (uses_in source space) name → is_in source space (said source name) ≡ false → (there : Bool) → is_in source other (said source name) ≡ there → there ≡ false
+nowhere source space other name clean used outside true is = absurd (clean (wrong WrongKind name.from) (wrong_kind space other name used outside is refl))
+nowhere source space other name clean used outside false is = refl
+
+known_by : (source : Source) (space : Space) (name : Span) → AreNamesClean source → Contains (uses_in source space) name → (there : Bool) → is_in source space (said source name) ≡ there → there ≡ true
+known_by source space name clean used true is = refl
+known_by source space name clean used false is =
+    absurd (clean (wrong Unknown name.from) (unknown space name used (λ other. nowhere source space other name clean used is (is_in source other (said source name)) refl) refl))
+
+pub known : (source : Source) (space : Space) (name : Span) → AreNamesClean source → Contains (uses_in source space) name → is_in source space (said source name) ≡ true
+known source space name clean used = known_by source space name clean used (is_in source space (said source name)) refl
+
+-- the atoms of a rule, and of a clause, are atoms of the file
+pub needed_here : (source : Source) (rule : RuleItem) (raw : RawAtom) → Contains (rules_of source) rule → Contains (atoms_of rule.raw.left) raw → Contains (atoms_written source) raw
+needed_here source rule raw there inside = contains_left (needed_atoms source) _ raw (contains_flat (λ (one : RuleItem). atoms_of one.raw.left) (rules_of source) rule raw there inside)
+
+pub made_there : (source : Source) (rule : RuleItem) (raw : RawAtom) → Contains (rules_of source) rule → Contains (atoms_of rule.raw.right) raw → Contains (made_atoms source) raw
+made_there source rule raw there inside = contains_flat (λ (one : RuleItem). atoms_of one.raw.right) (rules_of source) rule raw there inside
+
+pub made_here : (source : Source) (raw : RawAtom) → Contains (made_atoms source) raw → Contains (atoms_written source) raw
+made_here source raw there = contains_right (needed_atoms source) _ raw (contains_left (made_atoms source) _ raw there)
+
+pub clause_there : (source : Source) (clause : ClauseItem) (raw : RawAtom) → Contains (clauses_of source) clause → Contains (clause.head ∷ clause.goals) raw → Contains (clause_atoms source) raw
+clause_there source clause raw there inside = contains_flat (λ (one : ClauseItem). one.head ∷ one.goals) (clauses_of source) clause raw there inside
+
+pub clause_atom_here : (source : Source) (raw : RawAtom) → Contains (clause_atoms source) raw → Contains (atoms_written source) raw
+clause_atom_here source raw there = contains_right (needed_atoms source) _ raw (contains_right (made_atoms source) _ raw (contains_left (clause_atoms source) _ raw there))
+
+pub state_atom_here : (source : Source) (raw : RawAtom) → Contains (state_atoms source) raw → Contains (atoms_written source) raw
+state_atom_here source raw there = contains_right (needed_atoms source) _ raw (contains_right (made_atoms source) _ raw (contains_right (clause_atoms source) (state_atoms source) raw there))
+
+-- The predicate of an atom is declared, with as many arguments.
+pub record IsPredKnown (source : Source) (raw : RawAtom) : Type 0 where
+  pub pred : PredItem
+  pub found : pred_named source (said source raw.name) ≡ Some pred
+  pub count : raw.args ≡ length pred.args
+
+pub pred_known : (source : Source) (raw : RawAtom) → AreNamesClean source → Contains (atoms_written source) raw → IsPredKnown source raw
+pred_known source raw clean there =
+    let used = contains_map (λ (atom : RawAtom). atom.name) (atoms_written source) raw there in
+    let found = any_found (λ (pred : PredItem). named source pred.name) (λ other. bytes_eq other.name (said source raw.name)) (preds_of source) (known source space.Predicates raw.name clean used) in
+    record { pred = found.it; found = found.found_is; count = counted found.it found.found_is (raw.args == length found.it.args) refl }
+  where
+    counted : (pred : PredItem) → pred_named source (said source raw.name) ≡ Some pred → (same : Bool) → (raw.args == length pred.args) ≡ same → raw.args ≡ length pred.args
+    counted pred found true same = eqb-true raw.args (length pred.args) same
+    counted pred found false same = absurd (clean (wrong WrongArity raw.name.from) (wrong_arity raw pred there found (eqb-false raw.args (length pred.args) same) refl))
+
+-- The constructor of a node is declared, with as many arguments.
+pub record IsConKnown (source : Source) (at : Span) (args : ℕ) : Type 0 where
+  pub con : ConItem
+  pub found : con_named source (said source at) ≡ Some con
+  pub count : args ≡ length con.args
+
+pub con_known : (source : Source) (raw : RawAtom) (node : RawNode) → AreNamesClean source → Contains (atoms_written source) raw → Contains raw.nodes node → node.kind ≡ kind.App → IsConKnown source node.at node.args
+con_known source raw node clean there inside app =
+    let written = contains_flat (λ (atom : RawAtom). atom.nodes) (atoms_written source) raw node there inside in
+    let used = contains_flat (λ (one : RawNode). applied_at one.kind one.at) (raw_nodes (atoms_written source)) node node.at written (subst (λ shape. Contains (applied_at shape node.at) node.at) (sym app) (contains_first node.at [])) in
+    let found = any_found (λ (con : ConItem). named source con.name) (λ other. bytes_eq other.name (said source node.at)) (cons_of source) (known source space.Constructors node.at clean used) in
+    record { con = found.it; found = found.found_is; count = counted written found.it found.found_is (node.args == length found.it.args) refl }
+  where
+    counted : Contains (raw_nodes (atoms_written source)) node → (con : ConItem) → con_named source (said source node.at) ≡ Some con → (same : Bool) → (node.args == length con.args) ≡ same → node.args ≡ length con.args
+    counted written con found true same = eqb-true node.args (length con.args) same
+    counted written con found false same = absurd (clean (wrong WrongArity node.at.from) (wrong_term_arity node con written app found (eqb-false node.args (length con.args) same) refl))
+
+-- The variables of atoms and the types that are wanted of them.
+
+-- the nodes of terms
+abbrev pub nodes_at : List Site → List RawNode
+nodes_at sites = map (λ site. site.node) sites
+
+-- the types that a predicate, and a constructor, wants of its arguments
+pub pred_types_are : (source : Source) (name : List ℕ) (pred : PredItem) → pred_named source name ≡ Some pred → pred_types source name ≡ map (said source) pred.args
+pred_types_are source name pred found = ap (λ (is : Option PredItem). map (said source) (unwrap_or (option_map (λ (one : PredItem). one.args) is) [])) found
+
+pub con_types_are : (source : Source) (at : Span) (con : ConItem) → con_named source (said source at) ≡ Some con → node_types source kind.App at ≡ map (said source) con.args
+con_types_are source at con found = ap (λ (is : Option ConItem). map (said source) (unwrap_or (option_map (λ (one : ConItem). one.args) is) [])) found
+
+-- a constructor wants as many types as there are arguments, and a variable none
+types_count : (source : Source) (shape : RawKind) (at : Span) (args : ℕ) → IsCount shape args → (shape ≡ kind.App → IsConKnown source at args) → length (node_types source shape at) ≡ args
+types_count source shape at args count known = grind (arith, con_types_are, length-map)
+
+-- each node of terms that are so many stands at a place of its own
+pub sites_whole : (source : Source) (types : List (List ℕ)) (nodes : List RawNode) → Fill (length types) nodes → ((node : RawNode) → Contains nodes node → node.kind ≡ kind.App → IsConKnown source node.at node.args) → nodes_at (sites_from source types nodes) ≡ nodes
+sites_whole source (wants ∷ next) (first ∷ nodes) fill known =
+    let count = types_count source first.kind first.at first.args fill.0 (known first (contains_first first nodes)) in
+    let size : first.args + length next ≡ length (node_types source first.kind first.at ++ next) = omega (arith, count, length-append (node_types source first.kind first.at) next) in
+    let rest = sites_whole source (node_types source first.kind first.at ++ next) nodes (subst (λ n. Fill n nodes) size fill.1) (λ node there. known node (contains_behind first nodes node there)) in
+    ap (λ ns. first ∷ ns) rest
+sites_whole source types nodes fill known = grind arith
+
+-- the variables of terms are those of their nodes
+pub wanted_names : (source : Source) (blanks : ℕ) (sites : List Site) → map (λ (w : Wanted). w.name) (wanted_from source blanks sites) ≡ map (λ (o : Occurrence). o.name) (occurrences_from source blanks (nodes_at sites))
+wanted_names source blanks [] = refl
+wanted_names source blanks (site ∷ sites) = grind (arith, site.node.kind, site.node.at, wanted_names source (blanks_behind blanks site.node.kind) sites, site.wants)
+
+-- what equal bytes say
+pub same_bytes : (xs ys : List ℕ) → bytes_eq xs ys ≡ true → xs ≡ ys
+same_bytes xs ys e = (bytes_eq-Decides xs ys).0 e
+
+pub bytes_same : (xs : List ℕ) → bytes_eq xs xs ≡ true
+bytes_same xs = (bytes_eq-Decides xs xs).1 refl
+
+-- a name is among names, by test and by place
+pub any_is : (names : List (List ℕ)) (name : List ℕ) → list_any (λ other. bytes_eq other name) names ≡ true → Contains names name
+any_is [] name any = absurd cc
+any_is (other ∷ names) name any = by_test (bytes_eq other name) refl any (λ later. any_is names name later)
+  where
+    by_test : (b : Bool) → bytes_eq other name ≡ b → (b || list_any (λ other. bytes_eq other name) names) ≡ true → (list_any (λ other. bytes_eq other name) names ≡ true → Contains names name) → Contains (other ∷ names) name
+    by_test true e any rest = subst (λ n. Contains (other ∷ names) n) (same_bytes other name e) (contains_first other names)
+    by_test false e any rest = contains_behind other names name (rest any)
+
+pub is_any : (names : List (List ℕ)) (name : List ℕ) → Contains names name → list_any (λ other. bytes_eq other name) names ≡ true
+is_any [] name there = absurd (contains_none name there)
+is_any (other ∷ names) name there = ⊎_elim (λ (same : other ≡ name). here (bytes_eq other name) (subst (λ n. bytes_eq other n ≡ true) same (bytes_same other))) (λ later. behind (bytes_eq other name) (is_any names name later)) (contains_cases other names name there)
+  where
+    here : (b : Bool) → b ≡ true → (b || list_any (λ other. bytes_eq other name) names) ≡ true
+    here true e = refl
+    here false e = absurd cc
+
+    behind : (b : Bool) → list_any (λ other. bytes_eq other name) names ≡ true → (b || list_any (λ other. bytes_eq other name) names) ≡ true
+    behind true h = refl
+    behind false h = h
+
+-- a name that occurs was seen before, or occurs first somewhere
+first_by : (b : Bool) (seen : List (List ℕ)) (o : Occurrence) (occurrences : List Occurrence) (name : List ℕ)
+    → list_any (λ other. bytes_eq other o.name) seen ≡ b
+    → (o.name ≡ name) ⊎ Contains (map (λ (p : Occurrence). p.name) occurrences) name
+    → (Contains (map (λ (p : Occurrence). p.name) occurrences) name → Contains seen name ⊎ Contains (map (λ (p : Occurrence). p.name) (firsts_beside seen occurrences)) name)
+    → (Contains (map (λ (p : Occurrence). p.name) occurrences) name → Contains (o.name ∷ seen) name ⊎ Contains (map (λ (p : Occurrence). p.name) (firsts_beside (o.name ∷ seen) occurrences)) name)
+    → Contains seen name ⊎ Contains (map (λ (p : Occurrence). p.name) (if b then firsts_beside seen occurrences else o ∷ firsts_beside (o.name ∷ seen) occurrences)) name
+first_by true seen o occurrences name is there old new = grind (arith, any_is seen o.name is, o.name)
+first_by false seen o occurrences name is there old new = grind (arith, contains_first, contains_cases, contains_behind, o.name)
+
+pub first_there : (seen : List (List ℕ)) (occurrences : List Occurrence) (name : List ℕ) → Contains (map (λ (o : Occurrence). o.name) occurrences) name
+    → Contains seen name ⊎ Contains (map (λ (o : Occurrence). o.name) (firsts_beside seen occurrences)) name
+first_there seen [] name there = absurd (contains_none name there)
+first_there seen (o ∷ occurrences) name there =
+    first_by (list_any (λ other. bytes_eq other o.name) seen) seen o occurrences name refl
+    (contains_cases o.name (map (λ (p : Occurrence). p.name) occurrences) name there)
+    (λ later. first_there seen occurrences name later)
+    (λ later. first_there (o.name ∷ seen) occurrences name later)
+
+-- and each first occurrence is an occurrence
+firsts_by : (b : Bool) (seen : List (List ℕ)) (o : Occurrence) (occurrences : List Occurrence) (x : Occurrence)
+    → Contains (if b then firsts_beside seen occurrences else o ∷ firsts_beside (o.name ∷ seen) occurrences) x
+    → (Contains (firsts_beside seen occurrences) x → Contains occurrences x)
+    → (Contains (firsts_beside (o.name ∷ seen) occurrences) x → Contains occurrences x)
+    → Contains (o ∷ occurrences) x
+firsts_by b seen o occurrences x there old new = grind (arith, contains_behind, contains_first, contains_cases)
+
+pub firsts_there : (seen : List (List ℕ)) (occurrences : List Occurrence) (x : Occurrence) → Contains (firsts_beside seen occurrences) x → Contains occurrences x
+firsts_there seen [] x there = there
+firsts_there seen (o ∷ occurrences) x there =
+    firsts_by (list_any (λ other. bytes_eq other o.name) seen) seen o occurrences x there
+    (λ old. firsts_there seen occurrences x old) (λ new. firsts_there (o.name ∷ seen) occurrences x new)
+
+blanks_differ : (one other : ℕ) → one < other → other + 1 < 2 ^ 64 → codes "_" ++ decimal (one + 1) ≡ codes "_" ++ decimal (other + 1) → ⊥
+blanks_differ one other less short same = grind (arith, decimal_injective)
+
+-- nor that of a variable
+word_differs : (word rest : List ℕ) → IsWord is_ascii_uppercase word → word ≡ 95 ∷ rest → ⊥
+word_differs word rest is same = grind arith
+
+-- A variable by its name at a place, or a blank, whose name nothing before it has.
+pub data IsFirstIn (source : Source) (blanks : ℕ) (wanted : List Wanted) (sites : List Site) (w : Wanted) : Type 0 where
+  written : (site : Site) → Contains sites site → site.node.kind ≡ kind.Var → w.name ≡ said source site.node.at → w.wants ≡ site.wants → IsFirstIn source blanks wanted sites w
+  blank : (number : ℕ) → blanks ≤ number → number + 1 < 2 ^ 64 → w.name ≡ codes "_" ++ decimal (number + 1) → find (λ (v : Wanted). bytes_eq v.name w.name) wanted ≡ Some w → IsFirstIn source blanks wanted sites w
+
+not_same : (xs ys : List ℕ) → (xs ≡ ys → ⊥) → bytes_eq xs ys ≡ false
+not_same xs ys differ = grind (arith, same_bytes)
+
+find_behind : (v w : Wanted) (rest : List Wanted) → bytes_eq v.name w.name ≡ false → find (λ (x : Wanted). bytes_eq x.name w.name) rest ≡ Some w → find (λ (x : Wanted). bytes_eq x.name w.name) (v ∷ rest) ≡ Some w
+find_behind v w rest differ found = ap (λ b. cond b (Some v) (find (λ (x : Wanted). bytes_eq x.name w.name) rest)) differ ∙ found
+
+find_here : (w : Wanted) (rest : List Wanted) → find (λ (x : Wanted). bytes_eq x.name w.name) (w ∷ rest) ≡ Some w
+find_here w rest = ap (λ b. cond b (Some w) (find (λ (x : Wanted). bytes_eq x.name w.name) rest)) (bytes_same w.name)
+
+-- each written variable of the terms is a word
+abbrev pub AreWords : Source → List Site → Type 0
+AreWords source sites = (site : Site) → Contains sites site → site.node.kind ≡ kind.Var → IsWord is_ascii_uppercase (said source site.node.at)
+
+-- what occurs at one node, and after it
+abbrev wanted_at : Source → ℕ → Site → RawKind → List Site → List Wanted
+wanted_at source blanks site shape sites = map (λ occurrence. record { name = occurrence.name; wants = site.wants }) (occurrence_at source blanks site.node.at shape) ++ wanted_from source (blanks_behind blanks shape) sites
+
+behind_var : (source : Source) (blanks : ℕ) (site : Site) (sites : List Site) (w : Wanted) → IsWord is_ascii_uppercase (said source site.node.at) → IsFirstIn source blanks (wanted_from source blanks sites) sites w → IsFirstIn source blanks (wanted_at source blanks site kind.Var sites) (site ∷ sites) w
+behind_var source blanks site sites w word (written other there var name wants) = written other (contains_behind site sites other there) var name wants
+behind_var source blanks site sites w word (blank number above short name found) =
+    blank number above short name
+    (find_behind (record { name = said source site.node.at; wants = site.wants }) w (wanted_from source blanks sites)
+    (not_same (said source site.node.at) w.name (λ same. word_differs (said source site.node.at) (decimal (number + 1)) word (same ∙ name))) found)
+
+behind_blank : (source : Source) (blanks : ℕ) (site : Site) (sites : List Site) (w : Wanted) → IsFirstIn source (blanks + 1) (wanted_from source (blanks + 1) sites) sites w → IsFirstIn source blanks (wanted_at source blanks site kind.Blank sites) (site ∷ sites) w
+behind_blank source blanks site sites w (written other there var name wants) = written other (contains_behind site sites other there) var name wants
+behind_blank source blanks site sites w (blank number above short name found) =
+    blank number (omega arith) short name
+    (find_behind (record { name = codes "_" ++ decimal (blanks + 1); wants = site.wants }) w (wanted_from source (blanks + 1) sites)
+    (not_same (codes "_" ++ decimal (blanks + 1)) w.name (λ same. blanks_differ blanks number (omega arith) short (same ∙ name))) found)
+
+behind_con : (source : Source) (blanks : ℕ) (site : Site) (sites : List Site) (w : Wanted) → IsFirstIn source blanks (wanted_from source blanks sites) sites w → IsFirstIn source blanks (wanted_at source blanks site kind.App sites) (site ∷ sites) w
+behind_con source blanks site sites w (written other there var name wants) = written other (contains_behind site sites other there) var name wants
+behind_con source blanks site sites w (blank number above short name found) = blank number above short name found
+
+first_step : (source : Source) (blanks : ℕ) (site : Site) (sites : List Site) (w : Wanted) (shape : RawKind) → site.node.kind ≡ shape → blanks + 1 < 2 ^ 64
+    → (site.node.kind ≡ kind.Var → IsWord is_ascii_uppercase (said source site.node.at))
+    → Contains (wanted_at source blanks site shape sites) w
+    → (Contains (wanted_from source (blanks_behind blanks shape) sites) w → IsFirstIn source (blanks_behind blanks shape) (wanted_from source (blanks_behind blanks shape) sites) sites w)
+    → IsFirstIn source blanks (wanted_at source blanks site shape sites) (site ∷ sites) w
+first_step source blanks site sites w kind.App is short word there later = behind_con source blanks site sites w (later there)
+first_step source blanks site sites w kind.Var is short word there later =
+    ⊎_elim
+    (λ (same : record { name = said source site.node.at; wants = site.wants } ≡ w).
+    written site (contains_first site sites) is (sym (ap (λ (v : Wanted). v.name) same)) (sym (ap (λ (v : Wanted). v.wants) same)))
+    (λ behind. behind_var source blanks site sites w (word is) (later behind))
+    (contains_cases (record { name = said source site.node.at; wants = site.wants }) (wanted_from source blanks sites) w there)
+first_step source blanks site sites w kind.Blank is short word there later =
+    ⊎_elim
+    (λ (same : record { name = codes "_" ++ decimal (blanks + 1); wants = site.wants } ≡ w).
+    blank blanks (omega arith) short (sym (ap (λ (v : Wanted). v.name) same))
+    (subst (λ (v : Wanted). find (λ (x : Wanted). bytes_eq x.name v.name) (wanted_at source blanks site kind.Blank sites) ≡ Some v) same
+    (find_here (record { name = codes "_" ++ decimal (blanks + 1); wants = site.wants }) (wanted_from source (blanks + 1) sites))))
+    (λ behind. behind_blank source blanks site sites w (later behind))
+    (contains_cases (record { name = codes "_" ++ decimal (blanks + 1); wants = site.wants }) (wanted_from source (blanks + 1) sites) w there)
+
+more_short : (blanks : ℕ) (size : ℕ) (shape : RawKind) → blanks + suc size < 2 ^ 64 → blanks_behind blanks shape + size < 2 ^ 64
+more_short blanks size shape short = grind arith
+
+-- each variable of the terms is written somewhere, or a blank with a name of its own
+pub first_wanted : (source : Source) (blanks : ℕ) (sites : List Site) (w : Wanted) → AreWords source sites → blanks + length sites < 2 ^ 64 → Contains (wanted_from source blanks sites) w → IsFirstIn source blanks (wanted_from source blanks sites) sites w
+first_wanted source blanks [] w words short there = absurd (contains_none w there)
+first_wanted source blanks (site ∷ sites) w words short there =
+    first_step source blanks site sites w site.node.kind refl (omega arith) (words site (contains_first site sites)) there
+    (λ later. first_wanted source (blanks_behind blanks site.node.kind) sites w (λ other in_. words other (contains_behind site sites other in_)) (more_short blanks (length sites) site.node.kind short) later)
+
+-- The groups of rules, the stages that they name, and the numbers of names.
+
+-- The place at which a list has what is found in it, and the numbers of names.
+
+-- how many stand before the first that passes
+abbrev pub place : {X : Type 0} → (X → Bool) → List X → ℕ
+place p [] = 0
+place p (x ∷ xs) = cond (p x) 0 (1 + place p xs)
+
+place_is : {X : Type 0} (p : X → Bool) (xs : List X) → place p xs ≡ position_or_len p xs
+place_is p xs = is_position_or_len (place p) p refl (λ x xs. refl) xs
+
+-- the number of what is there
+pub position_there : {X : Type 0} (p : X → Bool) (xs : List X) → place p xs < length xs → unwrap_or (position p xs) 0 ≡ place p xs
+position_there p xs within = grind (arith, place_is, lt-ltb)
+
+or_rest : (one other : Bool) → one ≡ false → (one || other) ≡ true → other ≡ true
+or_rest one other e any = grind arith
+
+within_by : (b : Bool) (n m : ℕ) → (b ≡ false → n < m) → cond b 0 (1 + n) < suc m
+within_by b n m later = grind arith
+
+-- what passes somewhere has a place
+pub place_within : {X : Type 0} (p : X → Bool) (xs : List X) → list_any p xs ≡ true → place p xs < length xs
+place_within p [] any = absurd cc
+place_within p (x ∷ xs) any = within_by (p x) (place p xs) (length xs) (λ no. place_within p xs (or_rest (p x) (list_any p xs) no any))
+
+-- a name that is in a space has a number there
+pub number_within : (source : Source) (space : Space) (name : List ℕ) → is_in source space name ≡ true → number_of source space name < length (names_in source space)
+number_within source space name is = grind (arith, place_within, position_there)
+
+-- what is found stands at the place of the first that passes
+pub record IsLocated {X Y : Type 0} (g : Y → X) (p : X → Bool) (ys : List Y) (y : Y) : Type 0 where
+  pub here : slice_get ys (unwrap_or (position p (map g ys)) 0) ≡ Some y
+  pub within : unwrap_or (position p (map g ys)) 0 < length ys
+
+abbrev IsFoundAt : {Y : Type 0} → List Y → Y → ℕ → Type 0
+IsFoundAt ys y n = (slice_get ys n ≡ Some y) × (n < length ys)
+
+found_by : {Y : Type 0} (b : Bool) (z y : Y) (ys : List Y) (further : Option Y) (n : ℕ) → cond b (Some z) further ≡ Some y → (further ≡ Some y → IsFoundAt ys y n) → IsFoundAt (z ∷ ys) y (cond b 0 (1 + n))
+found_by b z y ys further n found later = grind arith
+
+module _ {X Y : Type 0} (g : Y → X) (p : X → Bool) where
+  found_at : (ys : List Y) (y : Y) → find (λ z. p (g z)) ys ≡ Some y → IsFoundAt ys y (place p (map g ys))
+  found_at [] y found = absurd cc
+  found_at (z ∷ ys) y found = found_by (p (g z)) z y ys (find (λ z. p (g z)) ys) (place p (map g ys)) found (λ later. found_at ys y later)
+
+  pub located : (ys : List Y) (y : Y) → find (λ z. p (g z)) ys ≡ Some y → IsLocated g p ys y
+  located ys y found = grind (arith, found_at, length-map, position_there)
+
+-- The groups of rules, and the stages that they name.
+
+-- the stage of a rule is one of those that are declared
+home_at : (next : RawItem) (rule : RuleItem) (stage : Span) → Contains (declares next).rules rule → rule.home ≡ Some stage → Contains (declares next).stages stage
+home_at (item.Stage name raws) rule stage there home = grind (arith, map_cases (λ (raw : RawRule). record { home = Some name; raw = raw }) raws rule there)
+home_at (item.Outer raw) rule stage there home = grind (arith, none_some, contains_none, contains_cases)
+home_at _ rule stage there home = absurd (contains_none rule there)
+
+home_there : (source : Source) (rule : RuleItem) (stage : Span) → Contains (rules_of source) rule → rule.home ≡ Some stage → Contains (stages_of source) stage
+home_there source rule stage there home =
+    let from = flat_cases (λ (one : RawItem). (declares one).rules) source.file rule there in
+    contains_flat (λ (one : RawItem). (declares one).stages) source.file from.from stage from.there (home_at from.from rule stage from.inside home)
+
+stage_declared : (source : Source) (stage : Span) → Contains (stages_of source) stage → is_in source space.Stages (said source stage) ≡ true
+stage_declared source stage there = grind (arith, any_map, is_any (map (said source) (stages_of source)) (said source stage) (contains_map (said source) (stages_of source) stage there), contains_map (said source) (stages_of source) stage there)
+
+module _ (source : Source) (clean : IsClean source) where
+  stage_in_range : (name : List ℕ) → is_in source space.Stages name ≡ true → number_of source space.Stages name < length (stages_of source)
+  stage_in_range name is = omega (arith, number_within source space.Stages name is, length-map (stages_of source) (named source))
+
+  pub used_stage : (span : Span) → Contains (uses_in source space.Stages) span → number_of source space.Stages (said source span) < length (stages_of source)
+  used_stage span there = stage_in_range (said source span) (known source space.Stages span clean.names there)
+
+  -- a side that names one stage
+  side_stage : (stages : List Span) → length stages ≡ 1 → ((span : Span) → Contains stages span → Contains (uses_in source space.Stages) span)
+      → unwrap_or (option_map (λ name. number_of source space.Stages (said source name)) (slice_get stages 0)) 0 < length (stages_of source)
+  side_stage [] one used = absurd (omega (arith, one))
+  side_stage (span ∷ stages) one used = used_stage span (used span (contains_first span stages))
+
+  sides_used : (rule : RuleItem) (span : Span) → Contains (rules_of source) rule → Contains (stages_named rule.raw.left ++ stages_named rule.raw.right) span → Contains (uses_in source space.Stages) span
+  sides_used rule span there inside =
+      let each = λ (one : RuleItem). stages_named one.raw.left ++ stages_named one.raw.right in
+      contains_left (flat_map each (rules_of source)) _ span (contains_flat each (rules_of source) rule span there inside)
+
+  -- by not being otherwise
+  is_one : (n : ℕ) → ((n ≡ 1 → ⊥) → ⊥) → n ≡ 1
+  is_one n never = grind (arith, eqb-true, eqb-false)
+
+  left_stage : (rule : RuleItem) → Contains (rules_of source) rule → rule.home ≡ None → stage_named source rule.raw.left < length (stages_of source)
+  left_stage rule there none =
+      side_stage (stages_named rule.raw.left)
+      (is_one _ (λ (no_ : length (stages_named rule.raw.left) ≡ 1 → ⊥). clean.names (wrong BadQui rule.raw.at) (bad_qui rule there none (λ (qui : IsQuiRule rule.raw). no_ qui.from) refl)))
+      (λ span inside. sides_used rule span there (contains_left (stages_named rule.raw.left) _ span inside))
+
+  right_stage : (rule : RuleItem) → Contains (rules_of source) rule → rule.home ≡ None → stage_named source rule.raw.right < length (stages_of source)
+  right_stage rule there none =
+      side_stage (stages_named rule.raw.right)
+      (is_one _ (λ (no_ : length (stages_named rule.raw.right) ≡ 1 → ⊥). clean.names (wrong BadQui rule.raw.at) (bad_qui rule there none (λ (qui : IsQuiRule rule.raw). no_ qui.to) refl)))
+      (λ span inside. sides_used rule span there (contains_right (stages_named rule.raw.left) _ span inside))
+
+  even_group : (k : ℕ) → (2 * k) % 2 ≡ 0
+  even_group k = let e : 2 * k + 0 ≡ 2 * k = omega arith in ap (λ n. n % 2) (sym e) ∙ mul-add-mod_self_left 2 k 0
+
+  odd_group : (k : ℕ) → (2 * k + 1) % 2 ≡ 1
+  odd_group k = mul-add-mod_self_left 2 k 1
+
+  grouped_by : (home : Option Span) (rule : RuleItem) → Contains (rules_of source) rule → rule.home ≡ home → (group_of source home rule.raw.left < 2 * length (stages_of source)) × (IsSome (next_of source home rule.raw.right) ↔ (group_of source home rule.raw.left % 2 ≡ 1)) × IfSome (next_of source home rule.raw.right) (λ stage. stage < length (stages_of source))
+  grouped_by (Some stage) rule there home = grind (arith, stage_in_range (said source stage) (stage_declared source stage (home_there source rule stage there home)), stage_declared source stage (home_there source rule stage there home), home_there source rule stage there home, even_group)
+  grouped_by None rule there home = grind (arith, left_stage, odd_group, right_stage, rule.raw.left)
+
+  pub rule_grouped : (item_ : RuleItem) (rule : Rule) → Contains (rules_of source) item_ → IsRuleBy source item_ rule → IsGroupedRule (length (stages_of source)) rule
+  rule_grouped item_ rule there by = grind (arith, grouped_by, item_.home, by.group_is, rule.next, item_.raw.left, by.next_is)
+
+  pub rule_next : (item_ : RuleItem) (rule : Rule) → Contains (rules_of source) item_ → IsRuleBy source item_ rule → IfSome rule.next (λ stage. stage < length (stages_of source))
+  rule_next item_ rule there by = subst (λ next. IfSome next (λ stage. stage < length (stages_of source))) (sym by.next_is) (grouped_by item_.home item_ there refl).2

@@ -33,12 +33,9 @@ use Rattle.cep_types.specs.Heads.{number_of, variable_of, sorts_said}
 use Rattle.cep_infer.specs.Heads.{heads_among, IsAtomBy, AreAtomsBy}
 use Rattle.cep_infer.specs.Meaning.{ArePremisesBy, con_by, pred_by, signature_of, names_of, kinds_of}
 use Rattle.cep_base.proofs.Elements.{contains_none, contains_first, contains_behind, contains_left, contains_right, contains_map}
-use Rattle.cep_ground.proofs.NameLaws.{IsFound, any_found, found_in}
-use Rattle.cep_ground.proofs.Known.{AreNamesClean, IsPredKnown, pred_known, IsConKnown, con_known}
-use Rattle.cep_ground.proofs.GroupLaws.{located}
+use Rattle.cep_ground.proofs.NameLaws.{IsFound, any_found, found_in, AreNamesClean, IsPredKnown, pred_known, IsConKnown, con_known, located, nodes_at, pred_types_are, con_types_are, sites_whole, wanted_both, wanted_names, same_bytes, bytes_same, is_any, first_there, IsFirstIn, AreWords, first_wanted}
 use Rattle.cep_ground.proofs.StateAtoms.{IsGoodCon, IsGood, AreGood, typed_args}
-use Rattle.cep_ground.proofs.Wanted.{nodes_at, pred_types_are, con_types_are, sites_whole, wanted_both, wanted_names, same_bytes, bytes_same, is_any, first_there, IsFirstIn, AreWords, first_wanted}
-use Rattle.cep_ground.proofs.Wanted.IsFirstIn.{written, blank}
+use Rattle.cep_ground.proofs.NameLaws.IsFirstIn.{written, blank}
 
 -- An atom stands in the file, and its nodes are its arguments.
 pub record IsHere (source : Source) (raw : RawAtom) : Type 0 where

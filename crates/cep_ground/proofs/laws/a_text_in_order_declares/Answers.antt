@@ -1,4 +1,4 @@
-use Rattle.cep_ground.proofs.Declared.{declared}
+use Rattle.cep_ground.proofs.Programs.{declared}
 use Rattle.cep_ground.proofs.laws.a_text_in_order_declares.Goals as goal
 
 pub returns : goal.returns

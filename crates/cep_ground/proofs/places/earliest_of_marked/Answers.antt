@@ -1,6 +1,6 @@
 use Rattle.std.proofs.Common.{subst, sym, take, length, arith}
 use Rattle.cep_ground.specs.Earliest.{IsEarliest, marked_among, all_marked}
-use Rattle.cep_ground.proofs.Ungrounded.{marked_next, marked_whole, lesser_within}
+use Rattle.cep_ground.proofs.Refused.{marked_next, marked_whole, lesser_within}
 use Rattle.cep_ground.proofs.places.earliest_of_marked.Goals as goal
 
 pub loop-i-preserved : goal.loop-i-preserved

@@ -3,8 +3,7 @@ use Rattle.cep_parse.specs.Symbols.{symbols_of}
 use Rattle.cep_refusal.specs.declared.reason.Reason.TheVariants.{Ungrounded}
 use Rattle.cep_refusal.specs.First.{wrong}
 use Rattle.cep_ground.specs.Earliest.{IsEarliest, all_marked}
-use Rattle.cep_ground.proofs.Refused.{refused_ungrounded}
-use Rattle.cep_ground.proofs.Ungrounded.{first_ungrounded, all_grounded}
+use Rattle.cep_ground.proofs.Refused.{refused_ungrounded, first_ungrounded, all_grounded}
 use Rattle.cep_ground.proofs.sealing.grounded.Goals as goal
 
 pub ungrounded_premises-requires : goal.ungrounded_premises-requires

@@ -4,8 +4,7 @@ use Rattle.cep_parse.specs.Symbols.{symbols_of}
 use Rattle.cep_refusal.specs.declared.reason.Reason.TheVariants.{Unbound}
 use Rattle.cep_refusal.specs.First.{wrong}
 use Rattle.cep_ground.specs.Earliest.{IsEarliest}
-use Rattle.cep_ground.proofs.Refused.{refused_unbound}
-use Rattle.cep_ground.proofs.Ungrounded.{first_unbound, all_bound}
+use Rattle.cep_ground.proofs.Refused.{refused_unbound, first_unbound, all_bound}
 use Rattle.cep_ground.proofs.sealing.judged.Goals as goal
 
 pub grounded-requires-clause-bound : goal.grounded-requires-clause-bound
