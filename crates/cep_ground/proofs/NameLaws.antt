@@ -1,5 +1,5 @@
 -- The names of a text: each is declared once; they are few, and names of a program.
-use Rattle.std.proofs.Common.{◌≡◌, ◌≢◌, List, [], ◌∷◌, ◌++◌, map, refl, sym, subst, append_assoc, Contains, Bool, true, false, ◌||◌, ◌⊎◌, inl, inr, ⊎_elim, ℕ, zero, suc, ◌+◌, ◌*◌, ◌≤◌, length, filter, arith, length-append, ◌-◌, take, drop, ap, ◌∙◌, get_or, ◌<◌, ◌^◌, IsTrue, not, if◌then◌else◌, ◌%◌}
+use Rattle.std.proofs.Common.{◌≡◌, ◌≢◌, List, [], ◌∷◌, ◌++◌, map, refl, sym, subst, append_assoc, Contains, Bool, true, false, ◌||◌, ◌⊎◌, inl, inr, ⊎_elim, ℕ, zero, suc, ◌+◌, ◌*◌, ◌≤◌, length, filter, arith, length-append, take, drop, ap, ◌∙◌, get_or, ◌<◌, ◌^◌, IsTrue, not, if◌then◌else◌, ◌%◌}
 use Rattle.std.specs.List.{AllByRecursion, find, list_any, AllZip, position, position_or_len, flat_map}
 use Rattle.cep_rule.specs.Names.{AllDiffer, IsName, IsVariableName, IsWord, AreNames}
 use Rattle.cep_source.specs.declared.space.Space.{Space}
@@ -99,8 +99,7 @@ pub record IsFound {Y : Type 0} (found : Option Y) : Type 0 where
   pub found_is : found ≡ Some it
 
 found_any : {Y : Type 0} (b rest : Bool) (z : Y) (further : Option Y) → (b || rest) ≡ true → (rest ≡ true → IsFound further) → IsFound (cond b (Some z) further)
-found_any true rest z further any later = record { it = z; found_is = refl }
-found_any false rest z further any later = later any
+found_any b rest z further any later = grind arith
 
 -- where something passes, something is found
 pub any_found : {X Y : Type 0} (g : Y → X) (p : X → Bool) (ys : List Y) → list_any p (map g ys) ≡ true → IsFound (find (λ z. p (g z)) ys)
@@ -113,10 +112,7 @@ pub record IsFoundIn {Y : Type 0} (p : Y → Bool) (ys : List Y) (y : Y) : Type 
   pub there : Contains ys y
 
 found_first : {Y : Type 0} (p : Y → Bool) (b : Bool) (z y : Y) (ys : List Y) (further : Option Y) → p z ≡ b → cond b (Some z) further ≡ Some y → (further ≡ Some y → IsFoundIn p ys y) → IsFoundIn p (z ∷ ys) y
-found_first p true z y ys further is found later =
-    let same : z ≡ y = cc in
-    subst (λ w. IsFoundIn p (z ∷ ys) w) same (record { passes = is; there = contains_first z ys })
-found_first p false z y ys further is found later = let rest = later found in record { passes = rest.passes; there = contains_behind z ys y rest.there }
+found_first p b z y ys further is found later = grind (arith, contains_first, contains_behind)
 
 pub found_in : {Y : Type 0} (p : Y → Bool) (ys : List Y) (y : Y) → find p ys ≡ Some y → IsFoundIn p ys y
 found_in p [] y found = absurd cc
@@ -132,7 +128,6 @@ at_most (x ∷ xs) (suc n) none = let rest = at_most xs n none in omega (arith, 
 
 filter_size_by : {X : Type 0} (b c : Bool) (x : X) (n m k : ℕ) → (b ≡ true) ⊎ (c ≡ true) → n ≤ m + k → suc n ≤ cond b (suc m) m + cond c (suc k) k
 filter_size_by b c x n m k some few = grind arith
-
 filter_size : {X : Type 0} (p : X → Bool) (x : X) (xs : List X) → length (filter p (x ∷ xs)) ≡ cond (p x) (suc (length (filter p xs))) (length (filter p xs))
 filter_size p x xs = grind arith
 
@@ -242,7 +237,6 @@ variable_word source is span at = run_word is_ascii_uppercase (said source span)
 
 some_run : (first next : ℕ → Bool) (word : List ℕ) → Runs first next word → 1 ≤ length word
 some_run first next word runs = grind arith
-
 one_byte : (word codes_ : List ℕ) → word ≡ codes_ → 1 ≤ length codes_ → 1 ≤ length word
 one_byte word codes_ same some = subst (λ w. 1 ≤ length w) (sym same) some
 
@@ -314,25 +308,18 @@ module _ (source : Source) (clean : IsClean source) (items : AllByRecursion (IsI
 
   named_stage : (item_ : RawItem) → IsItemOf clean.is_source.tokens item_ → AllByRecursion (λ span. IsName (said source span)) (declares item_).stages
   named_stage item_ is = grind (arith, name_at)
-
   named_pred : (item_ : RawItem) → IsItemOf clean.is_source.tokens item_ → AllByRecursion (λ (pred : PredItem). IsName (said source pred.name)) (declares item_).preds
   named_pred item_ is = grind (arith, name_at)
-
   con_by_label : (labelled : Bool) (con : ConItem) → IsName (said source con.name) → AllByRecursion (λ (con : ConItem). IsName (said source con.name)) (if not labelled then con ∷ [] else [])
   con_by_label labelled con is = grind arith
-
   named_con : (item_ : RawItem) → IsItemOf clean.is_source.tokens item_ → AllByRecursion (λ (con : ConItem). IsName (said source con.name)) (cons_in source item_)
   named_con item_ is = grind (arith, con_by_label, name_at)
-
   rules_made : (item_ : RawItem) → IsItemOf clean.is_source.tokens item_ → AllByRecursion (λ (rule : RuleItem). IsRuleOf clean.is_source.tokens rule.raw) (declares item_).rules
   rules_made item_ is = grind (arith, all_map)
-
   label_made : (rule : RuleItem) → Contains (rules_of source) rule → IsLabelOf clean.is_source.tokens rule.raw.label
   label_made rule there = (all_at (λ (one : RuleItem). IsRuleOf clean.is_source.tokens one.raw) (rules_of source) rule (all_flat (IsItemOf clean.is_source.tokens) (λ (one : RuleItem). IsRuleOf clean.is_source.tokens one.raw) (λ item_. (declares item_).rules) source.file rules_made items) there).label
-
   rule_name_is : (unlabelled : ℕ) (label : Option Span) → unlabelled + 1 < 2 ^ 63 → IsLabelOf clean.is_source.tokens label → IsName (rule_name source unlabelled label)
   rule_name_is unlabelled label few is = grind (arith, name_at, qui_name)
-
   more_rules : (unlabelled size : ℕ) (label : Option Span) → unlabelled + suc size < 2 ^ 62 → unlabelled_behind unlabelled label + size < 2 ^ 62
   more_rules unlabelled size label few = grind arith
 
@@ -408,16 +395,12 @@ needed_here source rule raw there inside = contains_left (needed_atoms source) _
 
 pub made_there : (source : Source) (rule : RuleItem) (raw : RawAtom) → Contains (rules_of source) rule → Contains (atoms_of rule.raw.right) raw → Contains (made_atoms source) raw
 made_there source rule raw there inside = contains_flat (λ (one : RuleItem). atoms_of one.raw.right) (rules_of source) rule raw there inside
-
 pub made_here : (source : Source) (raw : RawAtom) → Contains (made_atoms source) raw → Contains (atoms_written source) raw
 made_here source raw there = contains_right (needed_atoms source) _ raw (contains_left (made_atoms source) _ raw there)
-
 pub clause_there : (source : Source) (clause : ClauseItem) (raw : RawAtom) → Contains (clauses_of source) clause → Contains (clause.head ∷ clause.goals) raw → Contains (clause_atoms source) raw
 clause_there source clause raw there inside = contains_flat (λ (one : ClauseItem). one.head ∷ one.goals) (clauses_of source) clause raw there inside
-
 pub clause_atom_here : (source : Source) (raw : RawAtom) → Contains (clause_atoms source) raw → Contains (atoms_written source) raw
 clause_atom_here source raw there = contains_right (needed_atoms source) _ raw (contains_right (made_atoms source) _ raw (contains_left (clause_atoms source) _ raw there))
-
 pub state_atom_here : (source : Source) (raw : RawAtom) → Contains (state_atoms source) raw → Contains (atoms_written source) raw
 state_atom_here source raw there = contains_right (needed_atoms source) _ raw (contains_right (made_atoms source) _ raw (contains_right (clause_atoms source) (state_atoms source) raw there))
 
@@ -506,8 +489,7 @@ is_any [] name there = absurd (contains_none name there)
 is_any (other ∷ names) name there = ⊎_elim (λ (same : other ≡ name). here (bytes_eq other name) (subst (λ n. bytes_eq other n ≡ true) same (bytes_same other))) (λ later. behind (bytes_eq other name) (is_any names name later)) (contains_cases other names name there)
   where
     here : (b : Bool) → b ≡ true → (b || list_any (λ other. bytes_eq other name) names) ≡ true
-    here true e = refl
-    here false e = absurd cc
+    here b e = grind arith
 
     behind : (b : Bool) → list_any (λ other. bytes_eq other name) names ≡ true → (b || list_any (λ other. bytes_eq other name) names) ≡ true
     behind true h = refl
@@ -560,10 +542,8 @@ pub data IsFirstIn (source : Source) (blanks : ℕ) (wanted : List Wanted) (site
 
 not_same : (xs ys : List ℕ) → (xs ≡ ys → ⊥) → bytes_eq xs ys ≡ false
 not_same xs ys differ = grind (arith, same_bytes)
-
 find_behind : (v w : Wanted) (rest : List Wanted) → bytes_eq v.name w.name ≡ false → find (λ (x : Wanted). bytes_eq x.name w.name) rest ≡ Some w → find (λ (x : Wanted). bytes_eq x.name w.name) (v ∷ rest) ≡ Some w
 find_behind v w rest differ found = ap (λ b. cond b (Some v) (find (λ (x : Wanted). bytes_eq x.name w.name) rest)) differ ∙ found
-
 find_here : (w : Wanted) (rest : List Wanted) → find (λ (x : Wanted). bytes_eq x.name w.name) (w ∷ rest) ≡ Some w
 find_here w rest = ap (λ b. cond b (Some w) (find (λ (x : Wanted). bytes_eq x.name w.name) rest)) (bytes_same w.name)
 
@@ -642,7 +622,6 @@ position_there p xs within = grind (arith, place_is, lt-ltb)
 
 or_rest : (one other : Bool) → one ≡ false → (one || other) ≡ true → other ≡ true
 or_rest one other e any = grind arith
-
 within_by : (b : Bool) (n m : ℕ) → (b ≡ false → n < m) → cond b 0 (1 + n) < suc m
 within_by b n m later = grind arith
 
@@ -679,8 +658,7 @@ module _ {X Y : Type 0} (g : Y → X) (p : X → Bool) where
 -- the stage of a rule is one of those that are declared
 home_at : (next : RawItem) (rule : RuleItem) (stage : Span) → Contains (declares next).rules rule → rule.home ≡ Some stage → Contains (declares next).stages stage
 home_at (item.Stage name raws) rule stage there home = grind (arith, map_cases (λ (raw : RawRule). record { home = Some name; raw = raw }) raws rule there)
-home_at (item.Outer raw) rule stage there home = grind (arith, none_some, contains_none, contains_cases)
-home_at _ rule stage there home = absurd (contains_none rule there)
+home_at next rule stage there home = grind (arith, none_some)
 
 home_there : (source : Source) (rule : RuleItem) (stage : Span) → Contains (rules_of source) rule → rule.home ≡ Some stage → Contains (stages_of source) stage
 home_there source rule stage there home =
@@ -726,7 +704,6 @@ module _ (source : Source) (clean : IsClean source) where
 
   even_group : (k : ℕ) → (2 * k) % 2 ≡ 0
   even_group k = let e : 2 * k + 0 ≡ 2 * k = omega arith in ap (λ n. n % 2) (sym e) ∙ mul-add-mod_self_left 2 k 0
-
   odd_group : (k : ℕ) → (2 * k + 1) % 2 ≡ 1
   odd_group k = mul-add-mod_self_left 2 k 1
 
@@ -736,6 +713,5 @@ module _ (source : Source) (clean : IsClean source) where
 
   pub rule_grouped : (item_ : RuleItem) (rule : Rule) → Contains (rules_of source) item_ → IsRuleBy source item_ rule → IsGroupedRule (length (stages_of source)) rule
   rule_grouped item_ rule there by = grind (arith, grouped_by, item_.home, by.group_is, rule.next, item_.raw.left, by.next_is)
-
   pub rule_next : (item_ : RuleItem) (rule : Rule) → Contains (rules_of source) item_ → IsRuleBy source item_ rule → IfSome rule.next (λ stage. stage < length (stages_of source))
   rule_next item_ rule there by = subst (λ next. IfSome next (λ stage. stage < length (stages_of source))) (sym by.next_is) (grouped_by item_.home item_ there refl).2

@@ -1,5 +1,5 @@
 -- A text declares one program at most, or is refused for one fault; before that, what nodes in prefix order say of terms.
-use Rattle.std.proofs.Common.{◌≡◌, inl, inr, ⊎_elim, ℕ, List, [], ◌++◌, length, refl, sym, ◌∙◌, arith, append_assoc, length-append, Contains, ◌||◌, not, ◌∷◌, map, filter, ap, subst, ◌==◌, Bool, true, false, ◌&&◌, Option, Some, None, ◌⊎◌, zero, suc, ◌+◌, ◌*◌, ◌<◌, ◌≤◌, if◌then◌else◌, take}
+use Rattle.std.proofs.Common.{◌≡◌, inl, inr, ⊎_elim, ℕ, List, [], ◌++◌, length, refl, sym, ◌∙◌, arith, append_assoc, length-append, Contains, ◌||◌, not, ◌∷◌, map, filter, ap, subst, ◌==◌, Bool, true, false, ◌&&◌, Option, ◌⊎◌, zero, suc, ◌+◌, ◌*◌, ◌<◌, ◌≤◌, if◌then◌else◌, take}
 use Rattle.cep_term.specs.Tree.{Tree, Trees, variable, node, none, more, term_nodes, argument_nodes, Occurs, OccursAmong, AtomTree}
 use Rattle.cep_types.specs.Heads.{Head, var, con, number_of, head_at, heads_from}
 use Rattle.cep_infer.specs.Heads.{argument_count, heads_of, heads_among, IsAtomBy, AreAtomsBy}
@@ -108,7 +108,6 @@ mutual
 
 same_atom : (a b : AtomTree) → a.pred ≡ b.pred → a.args ≡ b.args → a ≡ b
 same_atom a b pred args = λ i. record { pred = pred i; args = args i }
-
 pub atom_once : (source : Source) (vars : List (List ℕ)) (blanks : ℕ) (raw : RawAtom) (a b : AtomTree) → IsAtomBy source vars blanks raw a → IsAtomBy source vars blanks raw b → a ≡ b
 atom_once source vars blanks raw a b one other = grind (arith, terms_once a.args b.args [] [] (one.count ∙ sym other.count) (append-nil (heads_among a.args) ∙ one.heads ∙ sym other.heads ∙ sym (append-nil (heads_among b.args))))
 
@@ -166,10 +165,8 @@ clauses_once source items xs ys one other = grind arith
 
 same_trace : (t u : TraceItem) (ts us : List TraceItem) → t ∷ ts ≡ u ∷ us → t ≡ u
 same_trace t u ts us e = cc
-
 start_once : (source : Source) (t u : TraceItem) (x y : Multiset) → t ≡ u → IsStartBy source t x → IsStartBy source u y → x ≡ y
 start_once source t u x y same one other = let one' : IsStartBy source u x = subst (λ v. IsStartBy source v x) same one in rw (one'.start_is, atoms_once source [] 0 _ one'.atoms other.atoms one'.atoms_are other.atoms_are, ← other.start_is)
-
 same_parts : (p q : Parts) → p.signature ≡ q.signature → p.stages ≡ q.stages → p.rules ≡ q.rules → p.clauses ≡ q.clauses → p.start_stage ≡ q.start_stage → p.start ≡ q.start → p.turns ≡ q.turns → p ≡ q
 same_parts p q signature stages rules clauses start_stage start turns = λ i. record { signature = signature i; stages = stages i; rules = rules i; clauses = clauses i; start_stage = start_stage i; start = start i; turns = turns i }
 
@@ -191,8 +188,7 @@ fact_by source a =
     ap (λ (found : Option PredDecl). unwrap_or (option_map (λ (pred : PredDecl). is_of_facts pred.kind) found) false) (slice_get-map (pred_by source) (preds_of source) a.pred) ∙ by (slice_get (preds_of source) a.pred)
   where
     by : (found : Option PredItem) → unwrap_or (option_map (λ (pred : PredDecl). is_of_facts pred.kind) (option_map (pred_by source) found)) false ≡ unwrap_or (option_map (λ (pred : PredItem). is_of_facts pred.kind) found) false
-    by None = refl
-    by (Some pred) = refl
+    by found = grind arith
 
 both_true : (a b : Bool) → (a && b) ≡ true → (a ≡ true) × (b ≡ true)
 both_true a b e = grind arith
@@ -271,7 +267,6 @@ numbered n =
 
 by_number : (reason : Reason) → numbered (number reason) ≡ reason
 by_number reason = grind arith
-
 number_within : (reason : Reason) → number reason ≤ 19
 number_within reason = grind arith
 
@@ -288,9 +283,6 @@ told_or_not : (p p' a a' n n' : ℕ) → n ≤ 19 → n' ≤ 19 → IsBefore p p
 told_or_not p p' a a' n n' within within' = grind (arith, cases_lt)
 
 -- ---- one refusal
-
-same_fault : (one other : Fault) → one.at ≡ other.at → number one.reason ≡ number other.reason → one ≡ other
-same_fault one other at numbers = grind (arith, by_number, one.reason, other.reason)
 
 pub one_refusal : (text : List ℕ) (one other : Fault) → IsRefusedFor text one → IsRefusedFor text other → one ≡ other
 one_refusal text one other is is' = grind (arith, one_standing (phase one.reason) (phase other.reason) one.at other.at (number one.reason) (number other.reason) (is.first other is'.holds) (is'.first one is.holds))

@@ -63,7 +63,6 @@ use Rattle.cep_parse.specs.declared.raw.RawKind.{RawKind}
 use Rattle.cep_parse.specs.declared.raw.RawElem.{RawElem}
 use Rattle.cep_source.specs.Spaces.{Named, names_in, rule_names_from, unlabelled_behind}
 use Rattle.std.specs.FinMap as finite
-use Rattle.cep_parse.specs.declared.raw.RawItem.TheVariants as item
 use Rattle.cep_source.specs.declared.space.Space.TheVariants as space
 use Rattle.cep_parse.specs.declared.raw.RawKind.TheVariants as kind
 use Rattle.cep_parse.specs.declared.raw.RawElem.TheVariants as elem
@@ -236,7 +235,6 @@ flat_few f (x ∷ xs) one = grind (arith, length-append, flat_few f xs one)
 
 one_sort : (item_ : RawItem) → length (declares item_).sorts ≤ 1
 one_sort item_ = grind arith
-
 one_stage : (item_ : RawItem) → length (declares item_).stages ≤ 1
 one_stage item_ = grind arith
 

@@ -45,7 +45,7 @@ use Rattle.cep_infer.specs.Places.{unbound_of}
 use Rattle.cep_ground.proofs.OneAnswer.{terms_occur, terms_nodes, fact_by}
 use Rattle.cep_ground.proofs.EarliestPlaces.{firsts_append, variable_at}
 use Rattle.std.proofs.lemmas.Option.{slice_get-map}
-use Rattle.cep_base.specs.declared.kind.PredKind.TheVariants.{Linear, Back, Fact}
+use Rattle.cep_base.specs.declared.kind.PredKind.TheVariants.{Back}
 use Rattle.cep_rule.specs.Typing.{IsTyped, HasStatePredicate, IsBackward, is_fact}
 use Rattle.cep_rule.specs.Program.{IsTypedRule, IsDividedRule, IsTypedClause, IsDividedClause}
 use Rattle.cep_source.specs.Starts.{is_of_fact}
@@ -108,10 +108,8 @@ module _ (source : Source) (clean : IsClean source) (made : AtomsMade source) wh
 
   pub right_at : (rule : RuleItem) → Contains (rules_of source) rule → (raw : RawAtom) → Contains (atoms_of rule.raw.right) raw → Contains (made_atoms source) raw
   right_at rule there raw inside = made_there source rule raw there inside
-
   pub right_here : (rule : RuleItem) → Contains (rules_of source) rule → (raw : RawAtom) → Contains (atoms_of rule.raw.right) raw → IsHere source raw
   right_here rule there raw inside = here_at raw (made_here source raw (right_at rule there raw inside))
-
   either_kind : (its : PredKind) → (may_be_state (Some its) ≡ true) ⊎ (may_be_backward (Some its) ≡ true)
   either_kind its = grind arith
 
@@ -121,13 +119,10 @@ module _ (source : Source) (clean : IsClean source) (made : AtomsMade source) wh
 
   pub linear_few : (rule : RuleItem) → Contains (rules_of source) rule → length (state_premises_of source rule.raw) ≤ 16
   linear_few rule there = at_most (state_premises_of source rule.raw) 16 (λ atom found. clean.names (wrong OverLimit atom.name.from) (over atom.name.from (premise rule atom there found refl) refl))
-
   pub back_few : (rule : RuleItem) → Contains (rules_of source) rule → length (backward_of source rule.raw) ≤ 8
   back_few rule there = at_most (backward_of source rule.raw) 8 (λ atom found. clean.names (wrong OverLimit atom.name.from) (over atom.name.from (back rule atom there found refl) refl))
-
   pub right_few : (rule : RuleItem) → Contains (rules_of source) rule → length (atoms_of rule.raw.right) ≤ 32
   right_few rule there = at_most (atoms_of rule.raw.right) 32 (λ atom found. clean.names (wrong OverLimit atom.name.from) (over atom.name.from (right rule atom there found refl) refl))
-
   pub goals_few : (clause : ClauseItem) → Contains (clauses_of source) clause → length clause.goals ≤ 8
   goals_few clause there = at_most clause.goals 8 (λ atom found. clean.names (wrong OverLimit atom.name.from) (over atom.name.from (goal clause atom there found refl) refl))
 
@@ -172,16 +167,12 @@ module _ (source : Source) (clean : IsClean source) (made : AtomsMade source) wh
 
   con_arg_known : (con : ConItem) (span : Span) → Contains (cons_of source) con → Contains con.args span → is_in source space.Sorts (said source span) ≡ true
   con_arg_known con span there inside = con_type_known con span there (contains_left con.args _ span inside)
-
   pub con_sort_known : (con : ConItem) → Contains (cons_of source) con → is_in source space.Sorts (said source con.sort) ≡ true
   con_sort_known con there = con_type_known con con.sort there (contains_right con.args _ con.sort (contains_first con.sort []))
-
   pred_arg_known : (pred : PredItem) (span : Span) → Contains (preds_of source) pred → Contains pred.args span → is_in source space.Sorts (said source span) ≡ true
   pred_arg_known pred span there inside = rw (known source space.Sorts span clean.names (contains_left (flat_map (λ (one : PredItem). one.args) (preds_of source)) _ span (contains_flat (λ (one : PredItem). one.args) (preds_of source) pred span there inside)))
-
   pub con_args_known : (con : ConItem) → Contains (cons_of source) con → AllByRecursion (λ name. is_in source space.Sorts name ≡ true) (map (said source) con.args)
   con_args_known con there = all_map (λ name. is_in source space.Sorts name ≡ true) (said source) con.args (all_of (λ span. is_in source space.Sorts (said source span) ≡ true) con.args (λ span inside. con_arg_known con span there inside))
-
   pub pred_args_known : (pred : PredItem) → Contains (preds_of source) pred → AllByRecursion (λ name. is_in source space.Sorts name ≡ true) (map (said source) pred.args)
   pred_args_known pred there = all_map (λ name. is_in source space.Sorts name ≡ true) (said source) pred.args (all_of (λ span. is_in source space.Sorts (said source span) ≡ true) pred.args (λ span inside. pred_arg_known pred span there inside))
 
@@ -191,13 +182,10 @@ module _ (source : Source) (clean : IsClean source) (made : AtomsMade source) wh
 
   con_types_known : (found : Option ConItem) (name : List ℕ) → con_named source name ≡ found → AreTypes (map (said source) (unwrap_or (option_map (λ (con : ConItem). con.args) found) []))
   con_types_known found name is = grind (arith, con_args_known, found_in)
-
   node_types_known : (shape : RawKind) (at : Span) → AreTypes (node_types source shape at)
   node_types_known shape at = grind (arith, con_types_known)
-
   pred_types_by : (found : Option PredItem) (name : List ℕ) → pred_named source name ≡ found → AreTypes (map (said source) (unwrap_or (option_map (λ (pred : PredItem). pred.args) found) []))
   pred_types_by found name is = grind (arith, pred_args_known, found_in)
-
   pred_types_known : (name : List ℕ) → AreTypes (pred_types source name)
   pred_types_known name = pred_types_by (pred_named source name) name refl
 
@@ -246,7 +234,6 @@ module _ (source : Source) (clean : IsClean source) (made : AtomsMade source) wh
 
   name_at : (blanks : ℕ) (shape : RawKind) (at : Span) (o : Occurrence) → blanks < 2 ^ 63 → IsWrittenAt clean.is_source.tokens shape at → Contains (occurrence_at source blanks at shape) o → IsVariableName o.name
   name_at blanks shape at o few node there = grind (arith, contains_none, variable_is, contains_cases, blank_name)
-
   fewer : (blanks size : ℕ) (shape : RawKind) → blanks + suc size < 2 ^ 63 → blanks_behind blanks shape + size < 2 ^ 63
   fewer blanks size shape few = grind arith
 
@@ -464,7 +451,6 @@ module _ (source : Source) (clean : IsClean source) (atoms_made : AtomsMade sour
 
   of_state : (atom : AtomTree) (j : IsJudged atom) → is_back source atom ≡ false → HasStatePredicate (signature_of source) atom
   of_state atom j linear = grind (arith, j.of_pred)
-
   backward_is : (atom : AtomTree) (j : IsJudged atom) → is_back source atom ≡ true → IsBackward (signature_of source) atom
   backward_is atom j yes_ = grind (arith, j.of_pred)
 
@@ -529,9 +515,7 @@ module _ (source : Source) (clean : IsClean source) (atoms_made : AtomsMade sour
       (λ (e : (pred_known source raw clean.names here.there).pred.kind ≡ Back). clean.names (wrong BwdInState raw.name.from) (backward_in_state raw there (kind_known source clean atoms_made raw here ∙ ap Some e) refl))
     where
       no_back : (its : PredKind) → (its ≡ Back → ⊥) → is_backward its ≡ false
-      no_back Linear never = refl
-      no_back Back never = absurd (never refl)
-      no_back Fact never = refl
+      no_back its never = grind arith
 
   -- so are the atoms of a right side
   pub right_of_state : (vars : List (List ℕ)) (blanks : ℕ) (raws : List RawAtom) (list : List AtomTree) → ((raw : RawAtom) → Contains raws raw → Contains (made_atoms source) raw) → ((raw : RawAtom) → Contains raws raw → IsHere source raw) → AreAtomsBy source vars blanks raws list → AllByRecursion (HasStatePredicate (signature_of source)) list
@@ -554,8 +538,7 @@ module _ (source : Source) (clean : IsClean source) (atoms_made : AtomsMade sour
       )
     where
       not_false : (b : Bool) → (b ≡ false → ⊥) → b ≡ true
-      not_false true never = refl
-      not_false false never = absurd (never refl)
+      not_false b never = grind arith
   clause_backward vars blanks raws list at here by = grind arith
 
   -- a premise that is a fact is kept
