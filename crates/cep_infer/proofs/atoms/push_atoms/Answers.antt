@@ -1,4 +1,4 @@
-use Rattle.cep_infer.proofs.Meeting.{atom_built}
+use Rattle.cep_infer.proofs.RulesInTurn.{atom_built}
 use Rattle.cep_infer.proofs.atoms.push_atoms.Goals as goal
 use Rattle.cep_base.specs.FirstNames.{names_among}
 

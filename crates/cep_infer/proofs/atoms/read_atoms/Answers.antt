@@ -1,4 +1,4 @@
-use Rattle.cep_infer.proofs.Meeting.{all_built}
+use Rattle.cep_infer.proofs.RulesInTurn.{all_built}
 use Rattle.cep_infer.proofs.atoms.read_atoms.Goals as goal
 use Rattle.cep_base.specs.FirstNames.{names_among}
 

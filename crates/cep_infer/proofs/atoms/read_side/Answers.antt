@@ -3,7 +3,7 @@ use Rattle.cep_parse.specs.declared.raw.RawAtom.{RawAtom}
 use Rattle.cep_parse.specs.Raw.{atoms_in}
 use Rattle.cep_base.specs.FirstNames.{names_among}
 use Rattle.cep_infer.specs.Built.{AreBuilt}
-use Rattle.cep_infer.proofs.Meeting.{none_built, part_built}
+use Rattle.cep_infer.proofs.RulesInTurn.{none_built, part_built}
 use Rattle.cep_infer.proofs.atoms.read_side.Goals as goal
 
 pub loop-elem-preserved : goal.loop-elem-preserved

@@ -1,6 +1,6 @@
 use Rattle.cep_term.specs.Tree.{atom_of}
 use Rattle.cep_source.specs.Kept.{clause_item}
-use Rattle.cep_infer.proofs.Meeting.{clause_built}
+use Rattle.cep_infer.proofs.RulesInTurn.{clause_built}
 use Rattle.cep_infer.proofs.clauses.clause.Goals as goal
 
 pub returns : goal.returns

@@ -1,7 +1,7 @@
 use Rattle.cep_rule.specs.Patterns.{clause_of}
 use Rattle.cep_source.specs.Kept.{clause_item}
 use Rattle.cep_infer.specs.Meaning.{IsClauseBy}
-use Rattle.cep_infer.proofs.Meeting.{zip_more}
+use Rattle.cep_infer.proofs.RulesInTurn.{zip_more}
 use Rattle.cep_infer.proofs.clauses.read_clauses.Goals as goal
 
 pub loop-item-preserved : goal.loop-item-preserved

@@ -8,7 +8,7 @@ use Rattle.cep_base.specs.FirstNames.{names_among}
 use Rattle.cep_source.specs.Variables.{blanks_after}
 use Rattle.cep_infer.specs.Built.{IsLeftBuilt}
 use Rattle.cep_infer.specs.Heads.{IsAtomBy}
-use Rattle.cep_infer.proofs.Meeting.{back_built, linear_built}
+use Rattle.cep_infer.proofs.RulesInTurn.{back_built, linear_built}
 use Rattle.cep_infer.proofs.left.push_premise.Goals as goal
 
 pub returns-then-is_back : goal.returns-then-is_back

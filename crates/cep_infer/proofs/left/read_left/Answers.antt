@@ -1,5 +1,5 @@
 use Rattle.std.proofs.Common.{[]}
-use Rattle.cep_infer.proofs.Meeting.{elem_built}
+use Rattle.cep_infer.proofs.RulesInTurn.{elem_built}
 use Rattle.cep_infer.proofs.left.read_left.Goals as goal
 use Rattle.cep_base.specs.FirstNames.{names_among}
 

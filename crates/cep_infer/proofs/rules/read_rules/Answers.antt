@@ -3,8 +3,7 @@ use Rattle.std.proofs.lemmas.List.{take_all}
 use Rattle.cep_rule.specs.declared.rule.Rule.{Rule}
 use Rattle.cep_source.specs.Kept.{rule_item}
 use Rattle.cep_infer.specs.Meaning.{IsRuleBy}
-use Rattle.cep_infer.proofs.Meeting.{zip_more}
-use Rattle.cep_infer.proofs.RulesInTurn.{named_each, named_more}
+use Rattle.cep_infer.proofs.RulesInTurn.{zip_more, named_each, named_more}
 use Rattle.cep_infer.proofs.rules.read_rules.Goals as goal
 
 pub bounds-names-i : goal.bounds-names-i

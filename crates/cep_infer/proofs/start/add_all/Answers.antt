@@ -3,8 +3,7 @@ use Rattle.std.proofs.lemmas.List.{length-map}
 use Rattle.cep_term.specs.Tree.{IsGroundAtom, atom_of}
 use Rattle.cep_base.proofs.Elements.{all_at}
 use Rattle.cep_infer.specs.Meaning.{is_fact_by}
-use Rattle.cep_infer.proofs.Reordered.{atom_at}
-use Rattle.cep_infer.proofs.HeldOnce.{passed_over, added}
+use Rattle.cep_infer.proofs.HeldOnce.{atom_at, passed_over, added}
 use Rattle.cep_infer.proofs.start.add_all.Goals as goal
 
 pub loop-atom-preserved-then-is_repeated : goal.loop-atom-preserved-then-is_repeated

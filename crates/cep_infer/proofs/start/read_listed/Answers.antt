@@ -1,6 +1,6 @@
 use Rattle.std.proofs.Common.{[], ◌∷◌, true, false, refl}
 use Rattle.cep_base.specs.FirstNames.{names_among}
-use Rattle.cep_infer.proofs.Meeting.{braces_built}
+use Rattle.cep_infer.proofs.RulesInTurn.{braces_built}
 use Rattle.cep_infer.proofs.start.read_listed.Goals as goal
 
 pub loop-raw-preserved-then-stands_for_context : goal.loop-raw-preserved-then-stands_for_context

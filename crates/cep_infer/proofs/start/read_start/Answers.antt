@@ -6,7 +6,7 @@ use Rattle.cep_term.specs.Multiset.{once}
 use Rattle.cep_source.specs.Kept.{trace_item}
 use Rattle.cep_infer.specs.Meaning.{is_fact_by}
 use Rattle.cep_infer.proofs.RulesInTurn.{start_ground}
-use Rattle.cep_infer.proofs.Reordered.{all_reordered, same_gathered}
+use Rattle.cep_infer.proofs.HeldOnce.{all_reordered, same_gathered}
 use Rattle.cep_infer.proofs.start.read_start.Goals as goal
 
 pub add_all-requires : goal.add_all-requires
