@@ -1,4 +1,3 @@
 pub mod Looping
-pub mod Knowing
 pub mod Deciding
 pub mod Numbering

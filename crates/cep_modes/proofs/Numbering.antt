@@ -1,8 +1,8 @@
--- The numbers of pairs, and the clauses and premises that call bad ones.
-use Rattle.std.proofs.Common.{◌≡◌, ◌<◌, ◌+◌, ◌*◌, ◌/◌, ◌%◌, ◌==◌, ℕ, zero, suc, Bool, true, false, cond, refl, ap, ◌∙◌, arith, ◌≢◌, ◌⊎◌, inl, inr, ⊎_elim, ◌&&◌, List, [], ◌∷◌, ◌++◌, slice_get, Some, sym, subst, eq-eqb, length, map, take, drop, ◌≤◌, Option, None}
-use Rattle.cep_term.specs.Tree.{Trees, AtomTree, none, more, Tree, variable, node, Occurs, OccursAmong, IsInRange, AreInRange}
-use Rattle.cep_rule.specs.Groundness.{Known, is_known, positions_known, are_known, known_at, known_after, known_after_all, CallsAt, Calls, LeavesUnknown, SomeFails, nothing, IsBad}
-use Rattle.cep_modes.specs.Places.{positions_of, set_number, room, IsPlain, pair_place, IsAmong, IsPlainClause, places_of, zero_unless, clause_callees, callees_of, holds, rule_places, all_places, callees}
+-- What is known after one thing and another was learnt.
+use Rattle.std.proofs.Common.{◌≡◌, ◌/◌, ℕ, suc, ◌&&◌, ◌||◌, Bool, true, false, List, [], ◌∷◌, ap, sym, ◌∙◌, arith, ◌<◌, ◌+◌, ◌*◌, ◌%◌, ◌==◌, zero, cond, refl, ◌≢◌, ◌⊎◌, inl, inr, ⊎_elim, ◌++◌, slice_get, Some, subst, eq-eqb, length, map, take, drop, ◌≤◌, Option, None}
+use Rattle.cep_term.specs.Tree.{Tree, Trees, node, more, AtomTree, none, variable, Occurs, OccursAmong, IsInRange, AreInRange}
+use Rattle.cep_rule.specs.Groundness.{Known, nothing, occurs, occurs_among, known_at, is_known, positions_known, are_known, known_after, known_after_all, CallsAt, Calls, LeavesUnknown, SomeFails, IsBad}
+use Rattle.cep_modes.specs.Places.{holds, either, positions_of, set_number, room, IsPlain, pair_place, IsAmong, IsPlainClause, places_of, zero_unless, clause_callees, callees_of, rule_places, all_places, callees}
 use Rattle.std.specs.List.{AllByRecursion, Contains}
 use Rattle.std.proofs.lemmas.Bool.Decides.{eqb_tells}
 use Rattle.std.proofs.lemmas.Option.{slice_get-get_or, slice_get_within, get_or_from_slice_get}
@@ -23,6 +23,44 @@ use Rattle.cep_rule.specs.Typing.{HaveSorts, IsTyped}
 use Rattle.cep_rule.specs.Program.{IsTypedRule, IsTypedClause}
 use Rattle.cep_rule.specs.TypeLaws.{TypeLaws}
 
+or_assoc : (a b c : Bool) → ((a || b) || c) ≡ (a || (b || c))
+or_assoc a b c = grind arith
+
+-- two things that are learnt one after the other are one thing
+pub either_both : (old middle new one other : Known) → middle ≡ either old one → new ≡ either middle other → new ≡ either old (either one other)
+either_both old middle new one other first second = grind (arith, or_assoc)
+
+pub learnt_node : (old new : Known) (t : Tree) (c : ℕ) (args : Trees) → t ≡ node c args → new ≡ either old (occurs_among args) → new ≡ either old (occurs t)
+learnt_node old new t c args is learnt = learnt ∙ ap (λ tree. either old (occurs tree)) (sym is)
+
+pub learnt_args : (old middle new : Known) (args : Trees) (t : Tree) (rest : Trees) → args ≡ more t rest
+    → middle ≡ either old (occurs t) → new ≡ either middle (occurs_among rest) → new ≡ either old (occurs_among args)
+learnt_args old middle new args t rest is first second = grind (arith, either_both)
+
+pub learnt_where : (old new : Known) (is_so : Bool) (t : Tree) → is_so ≡ true → new ≡ either old (occurs t) → new ≡ either old (λ v. is_so && occurs t v)
+learnt_where old new is_so t e learnt = learnt ∙ ap (λ b. either old (λ v. b && occurs t v)) (sym e)
+
+pub learnt_at : (old middle new : Known) (n : ℕ) (args : Trees) (t : Tree) (rest : Trees) → args ≡ more t rest
+    → middle ≡ either old (λ v. positions_of n 0 && occurs t v)
+    → new ≡ either middle (known_at (positions_of (n / 2)) rest)
+    → new ≡ either old (known_at (positions_of n) args)
+learnt_at old middle new n args t rest is first second = grind (arith, either_both)
+
+-- whether no flag is set
+abbrev pub none_set : List Bool → Bool
+none_set [] = true
+none_set (true ∷ flags) = false
+none_set (false ∷ flags) = none_set flags
+
+none_holds : (flags : List Bool) → none_set flags ≡ true → (v : ℕ) → holds flags v ≡ false
+none_holds (false ∷ flags) e (suc v) = none_holds flags e v
+none_holds flags e v = grind arith
+
+pub none_known : (flags : List Bool) → none_set flags ≡ true → holds flags ≡ nothing
+none_known flags e = λ i v. none_holds flags e v i
+
+-- The numbers of pairs, and the clauses and premises that call bad ones.
+
 -- The numbers of pairs: they are in range, and they tell the predicate and the positions.
 
 pub number_low : (known : Known) (args : Trees) → set_number known args < room args
@@ -35,7 +73,6 @@ nothing_at (suc i) = nothing_at i
 
 odd : (n : ℕ) (b : Bool) → ((2 * n + cond b 1 0) % 2 == 1) ≡ b
 odd n b = grind arith
-
 half : (n : ℕ) (b : Bool) → (2 * n + cond b 1 0) / 2 ≡ n
 half n b = grind arith
 
@@ -49,13 +86,10 @@ positions_told known args = λ j i. told_at known args i j
 
 first_part : (pred n : ℕ) → n < 256 → (pred * 256 + n) / 256 ≡ pred
 first_part pred n low = omega arith
-
 second_part : (pred n : ℕ) → n < 256 → (pred * 256 + n) % 256 ≡ n
 second_part pred n low = omega arith
-
 pub place_low : (preds : ℕ) (known : Known) (goal : AtomTree) → IsPlain 32 goal → goal.pred < preds → pair_place known goal < preds * 256 + 1
 place_low preds known goal plain low = let few : set_number known goal.args < room goal.args = number_low known goal.args in omega (arith, plain.few)
-
 number_small : (known : Known) (goal : AtomTree) → IsPlain 32 goal → set_number known goal.args < 256
 number_small known goal plain = let few : set_number known goal.args < room goal.args = number_low known goal.args in omega (arith, plain.few)
 

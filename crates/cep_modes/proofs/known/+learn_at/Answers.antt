@@ -1,7 +1,7 @@
 use Rattle.std.proofs.Common.{ap, sym, ◌∙◌}
 use Rattle.cep_term.specs.Tree.{tree_of, trees_of, more}
 use Rattle.cep_modes.specs.Places.{holds}
-use Rattle.cep_modes.proofs.Knowing.{learnt_at}
+use Rattle.cep_modes.proofs.Numbering.{learnt_at}
 use Rattle.cep_modes.proofs.known.+learn_at.Goals as goal
 
 pub returns-in-Cons : goal.returns-in-Cons

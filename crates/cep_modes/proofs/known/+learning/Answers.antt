@@ -1,7 +1,7 @@
 use Rattle.std.proofs.Common.{ap, sym, ◌∙◌}
 use Rattle.cep_term.specs.Tree.{tree_of, trees_of, node, more}
 use Rattle.cep_modes.specs.Places.{holds}
-use Rattle.cep_modes.proofs.Knowing.{learnt_node, learnt_args}
+use Rattle.cep_modes.proofs.Numbering.{learnt_node, learnt_args}
 use Rattle.cep_modes.proofs.known.+learning.Goals as goal
 
 pub learn-returns-in-App : goal.learn-returns-in-App

@@ -1,6 +1,6 @@
 use Rattle.cep_term.specs.Tree.{tree_of}
 use Rattle.cep_modes.specs.Places.{holds}
-use Rattle.cep_modes.proofs.Knowing.{learnt_where}
+use Rattle.cep_modes.proofs.Numbering.{learnt_where}
 use Rattle.cep_modes.proofs.known.learn_where.Goals as goal
 
 pub returns-then-is_so : goal.returns-then-is_so

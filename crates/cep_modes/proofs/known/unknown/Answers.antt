@@ -1,4 +1,4 @@
-use Rattle.cep_modes.proofs.Knowing.{none_known}
+use Rattle.cep_modes.proofs.Numbering.{none_known}
 use Rattle.cep_modes.proofs.known.unknown.Goals as goal
 
 pub returns : goal.returns
