@@ -2,7 +2,7 @@ use Rattle.std.proofs.Common.{◌∙◌, ◌+◌, map, drop}
 use Rattle.cep_source.specs.Items.{said}
 use Rattle.cep_types.specs.Clashes.{clash_of}
 use Rattle.cep_types.specs.Met.{type_met}
-use Rattle.cep_types.proofs.Mistaken.{clash_more, clash_over}
+use Rattle.cep_types.proofs.Meeting.{clash_more, clash_over}
 use Rattle.cep_types.proofs.clashes.atom_clash.Goals as goal
 
 pub loop-node-preserved : goal.loop-node-preserved

@@ -1,6 +1,6 @@
 use Rattle.std.proofs.Common.{[], ◌∷◌, append-nil}
 use Rattle.cep_source.specs.Kept.{atom_at}
-use Rattle.cep_types.proofs.Mistaken.{two_found}
+use Rattle.cep_types.proofs.Meeting.{two_found}
 use Rattle.cep_types.proofs.clashes.clause_clash.Goals as goal
 
 pub returns : goal.returns

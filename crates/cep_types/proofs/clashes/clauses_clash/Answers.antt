@@ -3,7 +3,7 @@ use Rattle.cep_base.proofs.ForemostLoops.{foremost_mapped}
 use Rattle.cep_source.specs.Kept.{clause_item}
 use Rattle.cep_types.specs.Sites.{clause_scope}
 use Rattle.cep_types.specs.Clashes.{scope_clashes}
-use Rattle.cep_types.proofs.Mistaken.{all_found}
+use Rattle.cep_types.proofs.Meeting.{all_found}
 use Rattle.cep_types.proofs.clashes.clauses_clash.Goals as goal
 
 pub loop-clause-preserved : goal.loop-clause-preserved

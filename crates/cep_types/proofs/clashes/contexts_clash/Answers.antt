@@ -2,7 +2,7 @@ use Rattle.cep_refusal.specs.First.{standing}
 use Rattle.cep_base.proofs.ForemostLoops.{foremost_mapped}
 use Rattle.cep_source.specs.Kept.{context_item}
 use Rattle.cep_types.specs.Clashes.{state_clashes}
-use Rattle.cep_types.proofs.Mistaken.{all_found}
+use Rattle.cep_types.proofs.Meeting.{all_found}
 use Rattle.cep_types.proofs.clashes.contexts_clash.Goals as goal
 
 pub loop-context-preserved : goal.loop-context-preserved

@@ -2,7 +2,7 @@ use Rattle.std.proofs.Common.{[], ◌∷◌, ◌≡◌, ◌∙◌, sym}
 use Rattle.cep_source.specs.Kept.{atom_at}
 use Rattle.cep_types.specs.Clashes.{atom_clashes, scope_clashes}
 use Rattle.cep_types.specs.Met.{type_met}
-use Rattle.cep_types.proofs.Mistaken.{one_found, one_closed}
+use Rattle.cep_types.proofs.Meeting.{one_found, one_closed}
 use Rattle.cep_types.proofs.clashes.lone_clash.Goals as goal
 use Rattle.cep_types.proofs.clashes.lone_clash.Goals.{then-has_variable+in_ok-meet_atom, else-has_variable}
 

@@ -1,5 +1,5 @@
 use Rattle.cep_parse.specs.Raw.{atoms_of}
-use Rattle.cep_types.proofs.Mistaken.{two_found}
+use Rattle.cep_types.proofs.Meeting.{two_found}
 use Rattle.cep_types.proofs.clashes.rule_clash.Goals as goal
 
 pub returns : goal.returns

@@ -3,7 +3,7 @@ use Rattle.cep_base.proofs.ForemostLoops.{foremost_mapped}
 use Rattle.cep_source.specs.Kept.{rule_item}
 use Rattle.cep_types.specs.Sites.{rule_scope}
 use Rattle.cep_types.specs.Clashes.{scope_clashes}
-use Rattle.cep_types.proofs.Mistaken.{all_found}
+use Rattle.cep_types.proofs.Meeting.{all_found}
 use Rattle.cep_types.proofs.clashes.rules_clash.Goals as goal
 
 pub loop-rule-preserved : goal.loop-rule-preserved

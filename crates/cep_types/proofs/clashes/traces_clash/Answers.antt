@@ -3,7 +3,7 @@ use Rattle.cep_refusal.specs.First.{standing}
 use Rattle.cep_base.proofs.ForemostLoops.{foremost_mapped}
 use Rattle.cep_source.specs.Kept.{trace_item}
 use Rattle.cep_types.specs.Clashes.{state_clashes}
-use Rattle.cep_types.proofs.Mistaken.{all_found}
+use Rattle.cep_types.proofs.Meeting.{all_found}
 use Rattle.cep_types.proofs.clashes.traces_clash.Goals as goal
 
 pub loop-trace-preserved : goal.loop-trace-preserved

@@ -1,6 +1,6 @@
 use Rattle.std.proofs.Common.{◌++◌}
 use Rattle.cep_types.specs.Clashes.{rule_clashes, clause_clashes, context_clashes, trace_clashes}
-use Rattle.cep_types.proofs.Mistaken.{both_found, first_mistyped}
+use Rattle.cep_types.proofs.Meeting.{both_found, first_mistyped}
 use Rattle.cep_types.proofs.clashes.type_fault.Goals as goal
 
 pub returns : goal.returns
