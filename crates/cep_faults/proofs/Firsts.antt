@@ -1,7 +1,8 @@
--- The first fault of lists of faults, noted part by part.
-use Rattle.std.proofs.Common.{None, refl, ◌≡◌, ◌<◌, ◌≤◌, ℕ, ◌+◌, length, take, get_or, List, [], ◌∷◌, ◌++◌, map, Option, sym, ◌∙◌, ap, append-nil, append_assoc, arith, Bor, suc, Bool, true, false, not, drop, filter, if◌then◌else◌, Some, ◌-◌, max, nat_le, set, drop-cons, length-set}
-use Rattle.std.specs.Option.{MatchOption, IsSomeAnd, option_map, IfSome, unwrap_or}
-use Rattle.std.specs.List.{flat_map, slice_get, repeat}
+-- Of a name that is declared its number of arguments alone is in question, and none is wanted of one that is not.
+use Rattle.std.proofs.Common.{◌≡◌, ℕ, Bool, true, false, List, [], ◌∷◌, ◌++◌, Some, None, map, refl, sym, arith, append-nil, ◌<◌, ◌≤◌, ◌+◌, length, take, get_or, Option, ◌∙◌, ap, append_assoc, Bor, suc, not, drop, filter, if◌then◌else◌, ◌-◌, max, nat_le, set, drop-cons, length-set}
+use Rattle.std.specs.List.{list_any, find, flat_map, slice_get, repeat}
+use Rattle.std.specs.Option.{option_map, MatchOption, IsSomeAnd, IfSome, unwrap_or}
+use Rattle.cep_faults.specs.Faults.{lack_faults, arity_faults, past, past_most, is_as, variable_faults}
 use Rattle.std.proofs.lemmas.Grind.{flat_map-append, common_steps}
 use Rattle.std.proofs.lemmas.List.{take_all, take_more, take-append-drop, take_more_set, map-append}
 use Rattle.std.proofs.lemmas.List.Folds.{flat_map-map}
@@ -20,7 +21,6 @@ use Rattle.cep_source.specs.Items.{Source, TraceItem, traces_of}
 use Rattle.cep_source.specs.Variables.{Occurrence}
 use Rattle.cep_source.specs.Met.{AreVariables}
 use Rattle.cep_source.specs.declared.variables.Variables.{Variables}
-use Rattle.cep_faults.specs.Faults.{past, past_most, is_as, variable_faults}
 use Rattle.std.proofs.lemmas.Bool.Decides.{nat_tests}
 use Rattle.cep_parse.specs.declared.raw.RawNode.{RawNode}
 use Rattle.cep_faults.specs.declared.limits.Run.{Run}
@@ -31,6 +31,26 @@ use Rattle.cep_refusal.specs.declared.reason.Reason.TheVariants.{NoTrace, TwoTra
 use Rattle.cep_source.specs.declared.items.TraceRef.{TraceRef}
 use Rattle.cep_source.specs.Kept.{trace_item}
 use Rattle.cep_faults.specs.Totals.{start_faults, two_faults, traces_faults}
+
+module _ {X Y : Type 0} (p : Y → Bool) (f : X → Y) where
+  there : (xs : List X) (x : X) → Some x ≡ find (λ y. p (f y)) xs → list_any p (map f xs) ≡ true
+  there [] x is = absurd cc
+  there (y ∷ xs) x is = grind (arith, there xs x)
+
+  nowhere : (xs : List X) → None ≡ find (λ y. p (f y)) xs → list_any p (map f xs) ≡ false
+  nowhere [] is = refl
+  nowhere (y ∷ xs) is = grind (arith, nowhere xs)
+
+  module _ (xs : List X) (arity : X → ℕ) (anywhere : Bool) (args at : ℕ) where
+    pub declared : (x : X) → Some x ≡ find (λ y. p (f y)) xs
+        → arity_faults (Some (arity x)) args at ≡ lack_faults (list_any p (map f xs)) anywhere at ++ arity_faults (option_map arity (find (λ y. p (f y)) xs)) args at
+    declared x is = rw (← is, there xs x is) refl
+
+    pub undeclared : None ≡ find (λ y. p (f y)) xs
+        → lack_faults false anywhere at ≡ lack_faults (list_any p (map f xs)) anywhere at ++ arity_faults (option_map arity (find (λ y. p (f y)) xs)) args at
+    undeclared is = rw (← is, nowhere xs is) (sym (append-nil (lack_faults false anywhere at)))
+
+-- The first fault of lists of faults, noted part by part.
 
 -- The first fault of lists of faults, as it is noted part by part.
 
@@ -119,7 +139,6 @@ filter-flat_map p g (x ∷ xs) = filter-append p (g x) (flat_map g xs) ∙ ap (�
 
 pub is_counted : (back b : Bool) (its : PredKind) (o : Option PredKind) → o ≡ Some its → b ≡ is_backward its → not (beq b back) ≡ false → unwrap_or (option_map (is_as back) o) false ≡ true
 is_counted back b its o is backward same = grind arith
-
 pub kept_one : {Y : Type 0} (p : Y → Bool) (y : Y) (ys : List Y) → ys ≡ y ∷ [] → p y ≡ true → filter p ys ≡ y ∷ []
 kept_one p y ys one is = ap (filter p) one ∙ ap (λ (b : Bool). if b then y ∷ [] else []) is
 
@@ -168,7 +187,6 @@ next_again runs later last run end at some is =
 
 pub next_other : (runs later : List Run) (last : ℕ) (run : Run) → last + 1 ≡ length runs → run ≡ get_or runs last run → run.more ≡ 0 → later ≡ take last runs → pending runs ≡ run.level ∷ pending later
 next_other runs later last run end at none is = cc (at_last runs last run end at, pending_push (take last runs) run, none, is)
-
 le_lost : (level g : ℕ) → 512 < level → nat_le (max level g) 512 ≡ false
 le_lost level g h = grind (arith, nat_tests)
 

@@ -7,7 +7,7 @@ use Rattle.cep_source.specs.Items.{ConItem, cons_of, said}
 use Rattle.cep_source.specs.Spaces.{Named, named}
 use Rattle.cep_source.specs.Kept.{con_item}
 use Rattle.cep_faults.specs.Faults.{is_somewhere, kind_faults}
-use Rattle.cep_faults.proofs.Declared.{declared, undeclared}
+use Rattle.cep_faults.proofs.Firsts.{declared, undeclared}
 use Rattle.cep_faults.proofs.atoms.node_fault.Goals as goal
 
 pub returns-in-Some : goal.returns-in-Some

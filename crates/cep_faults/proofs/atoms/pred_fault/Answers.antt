@@ -5,7 +5,7 @@ use Rattle.cep_source.specs.Items.{PredItem, preds_of, said}
 use Rattle.cep_source.specs.Spaces.{Named, named}
 use Rattle.cep_source.specs.Kept.{pred_item}
 use Rattle.cep_faults.specs.Faults.{is_somewhere}
-use Rattle.cep_faults.proofs.Declared.{declared, undeclared}
+use Rattle.cep_faults.proofs.Firsts.{declared, undeclared}
 use Rattle.cep_faults.proofs.atoms.pred_fault.Goals as goal
 
 pub returns-in-Some : goal.returns-in-Some
