@@ -1,11 +1,4 @@
-pub mod ForwardItems
-pub mod ForwardFiles
-pub mod Runs
 pub mod BackAtoms
-pub mod BackRules
 pub mod BackItems
 pub mod Within
-pub mod BackUses
-pub mod WellWritten
 pub mod ParsedOnce
-pub mod Parsed

@@ -1,4 +1,4 @@
-use Rattle.cep_parse.proofs.Parsed.{parsed}
+use Rattle.cep_parse.proofs.ParsedOnce.{parsed}
 use Rattle.cep_parse.proofs.laws.all_tokens_are_parsed.Goals as goal
 
 pub returns : goal.returns

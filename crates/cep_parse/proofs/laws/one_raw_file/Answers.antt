@@ -1,8 +1,6 @@
-use Rattle.cep_parse.proofs.ForwardFiles.{file_once}
-use Rattle.cep_parse.proofs.BackItems.{step_back}
+use Rattle.cep_parse.proofs.ParsedOnce.{file_once, ends_early}
+use Rattle.cep_parse.proofs.BackItems.{step_back, state_ends}
 use Rattle.cep_parse.proofs.Within.{step_within}
-use Rattle.cep_parse.proofs.BackUses.{state_ends}
-use Rattle.cep_parse.proofs.ParsedOnce.{ends_early}
 use Rattle.cep_parse.proofs.laws.one_raw_file.Goals as goal
 
 pub returns : goal.returns
