@@ -248,8 +248,6 @@ hash_token bytes size some is hash size_is =
     (cases_eq size 0)
 
 pair_token : (bytes : List ℕ) (kind : TokenKind) (second : ℕ) → 0 < length bytes → class (get_or bytes 0 0) ≡ Pair kind second → SpellsToken kind (get_or bytes 0 0 ∷ second ∷ []) → HasFront bytes
-pair_token [] kind second some is spelled = absurd (omega arith)
-pair_token (byte ∷ []) kind second some is spelled = grind (arith, no_front)
 pair_token (byte ∷ next ∷ bytes) kind second some is spelled =
     ⊎_elim
     (λ (same : next ≡ second). inl (kind, 2, front_from (byte ∷ next ∷ bytes) kind 2 some (ap (λ c. 1 + most_behind c (next ∷ bytes)) (sym is)) (omega arith) (subst (λ n. SpellsToken kind (byte ∷ n ∷ [])) (sym same) spelled)))
@@ -257,6 +255,7 @@ pair_token (byte ∷ next ∷ bytes) kind second some is spelled =
     let f : run ≡ second ∷ [] = subst (λ c. Follows c run) is follows in
     let e : next ∷ bytes ≡ second ∷ rest = cut ∙ ap (λ r. r ++ rest) f in other cc)))
     (cases_eq next second)
+pair_token bytes kind second some is spelled = grind (arith, no_front)
 
 front_of : (bytes : List ℕ) → 0 < length bytes → HasFront bytes
 front_of bytes some = by (class (get_or bytes 0 0)) refl (class_told (get_or bytes 0 0)) where

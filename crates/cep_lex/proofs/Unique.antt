@@ -126,12 +126,9 @@ pub record IsCut (text : List ℕ) (answer : Result (List Token) LexFault) : Typ
 
 -- each text is cut so
 is_cut : (text : List ℕ) (answer : Result (List Token) LexFault) → IsLexed text answer → IsCut text answer
-is_cut text (Ok tokens) is = record { tokens = tokens; rest = is.rest; cut = is.cut; ends = (refl, skip_last is.rest is.last) }
-is_cut text (Err (BadByte at)) is =
-    let e = skip_to is.rest is.gap is.byte is.behind is.found is.apart is.no_separator is.no_comment in
-    record { tokens = is.tokens; rest = is.rest; cut = is.cut; ends = ((λ none. let clash : [] ≡ is.byte ∷ is.behind = sym none ∙ e in cc), subst BeginsNoToken (sym e) is.no_token, ap (λ b. at + length b) e ∙ is.place) }
 is_cut text (Err (NameLong at)) is =
     record { tokens = is.tokens; rest = is.rest; cut = is.cut; ends = (front_of is.rest is.gap is.kind is.word is.behind is.split, is.long, ap (λ b. at + length b) (skip_to_token is.rest is.gap is.kind is.word is.behind is.split) ∙ is.place) }
+is_cut text answer is = grind (arith, skip_last, skip_to)
 
 -- no further token can be cut from such a rest
 is_stuck : (size : ℕ) (tokens : List Token) (rest : List ℕ) (answer : Result (List Token) LexFault) → Ends size tokens rest answer → (at : ℕ) (token : Token) (behind : List ℕ) → StartsWith at rest token behind → ⊥
