@@ -2,13 +2,13 @@
 use Rattle.std.proofs.Common.{◌≡◌, ◌⊎◌, inl, inr, ℕ, ◌+◌, List, [], ◌∷◌, ◌++◌, length, Some, sym, ◌∙◌, subst, arith}
 use Rattle.cep_base.proofs.Lists.{none_some, some_same}
 use Rattle.cep_rule.specs.declared.parts.Parts.{Parts}
-use Rattle.cep_log.specs.declared.log.Log.{Log}
-use Rattle.cep_log.specs.declared.so_far.SoFar.{SoFar}
-use Rattle.cep_log.specs.declared.so_far.SoFar.TheVariants.{Nothing}
-use Rattle.cep_log.specs.declared.fault.LogFault.{LogFault}
-use Rattle.cep_log.specs.Transcript.{MovesOn, Leads, said_by, HasLog, HasMisfit, IsFirstMisfit, StopsEarly, IsFaultOf}
 use Rattle.cep_log.proofs.Cuts.{one_cut}
 use Rattle.cep_log.proofs.LineKindLemmas.{OneValue, one_way, one_passed}
+use Rattle.cep_log.specs.declared.so_far.SoFar.TheVariants.{Nothing}
+use Rattle.cep_log.specs.Transcript.{MovesOn, Leads, said_by, HasLog, HasMisfit, IsFirstMisfit, StopsEarly, IsFaultOf}
+use Rattle.cep_log.specs.declared.so_far.SoFar.{SoFar}
+use Rattle.cep_log.specs.declared.fault.LogFault.{LogFault}
+use Rattle.cep_log.specs.declared.log.Log.{Log}
 
 -- a way through all lines goes through each of them
 leads_through : (program : Parts) (n : ℕ) (before : List (List ℕ)) (line : List ℕ) (behind : List (List ℕ)) (old new : SoFar) → Leads program n (before ++ line ∷ behind) old new
@@ -27,11 +27,7 @@ no_way program laws lines fault new misfit leads =
     misfit.nowhere through.1 (subst (λ so_far. MovesOn program (length misfit.before + 1) misfit.line so_far through.1) same (subst (λ (m : ℕ). MovesOn program m misfit.line through.0 through.1) at through.3))
 
 pub one_log : (program : Parts) (laws : OneValue program) (bytes : List ℕ) (one other : Log) → HasLog program bytes one → HasLog program bytes other → one ≡ other
-one_log program laws bytes one other a b =
-    let lines : a.lines ≡ b.lines = one_cut bytes a.lines b.lines a.cut b.cut in
-    let last : a.last ≡ b.last = one_way program laws 1 b.lines Nothing a.last b.last (subst (λ all. Leads program 1 all Nothing a.last) lines a.leads) b.leads in
-    let said : said_by b.last (length b.lines) ≡ Some one = subst (λ so_far. said_by so_far (length b.lines) ≡ Some one) last (subst (λ all. said_by a.last (length all) ≡ Some one) lines a.said) in
-    some_same one other (sym said ∙ b.said)
+one_log program laws bytes one other a b = grind (arith, one_cut, one_way, some_same)
 
 pub log_or_misfit : (program : Parts) (laws : OneValue program) (bytes : List ℕ) (log : Log) (fault : LogFault) → HasLog program bytes log → HasMisfit program bytes fault → ⊥
 log_or_misfit program laws bytes log fault a b = cases b.why where

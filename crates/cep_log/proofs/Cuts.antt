@@ -1,12 +1,12 @@
 -- The lines of bytes: those that the library cuts are the lines, and there are no others.
 use Rattle.std.proofs.Common.{◌≡◌, ◌≢◌, ◌⊎◌, inl, inr, ℕ, zero, suc, ◌+◌, ◌-◌, ◌≤◌, ◌==◌, ◌&&◌, List, [], ◌∷◌, ◌++◌, length, take, drop, map, slice_index, Bool, true, refl, sym, ap, ◌∙◌, subst, arith, length-append}
-use Rattle.std.specs.Prelude.{nat_lt}
 use Rattle.std.proofs.Math.Seq.{take-append_seam}
-use Rattle.std.proofs.lemmas.List.{same_from_push, take_all, drop_all, length-map}
+use Rattle.std.specs.Prelude.{nat_lt}
 use Rattle.std.proofs.lemmas.Bool.{cond-true, cond-false, eq-eqb, ne_eqb, cases_eq, le-leb}
+use Rattle.std.proofs.lemmas.List.{same_from_push, take_all, drop_all, length-map}
 use Rattle.bstr.specs.Text.{line_len, lines_from, lines_of, no_cr, without_terminator}
-use Rattle.cep_log.specs.Transcript.{IsBefore, AreLines}
 use Rattle.cep_log.proofs.Parted.{HasNone, one_parting, parting, has_last}
+use Rattle.cep_log.specs.Transcript.{IsBefore, AreLines}
 
 -- how long the first line is
 len_ended : (text rest : List ℕ) → HasNone 10 text → line_len (text ++ 10 ∷ rest) ≡ suc (length text)
@@ -42,9 +42,7 @@ last_pushed front last = ap (λ n. slice_index (front ++ last ∷ []) (n - 1)) (
   at (byte ∷ front) last = at front last
 
 front_pushed : (front : List ℕ) (last : ℕ) → take (length (front ++ last ∷ []) - 1) (front ++ last ∷ []) ≡ front
-front_pushed front last = ap (λ n. take (n - 1) (front ++ last ∷ [])) (length_pushed front last) ∙ ap (λ n. take n (front ++ last ∷ [])) (less (length front)) ∙ take-append_seam front (last ∷ []) where
-  less : (n : ℕ) → suc n - 1 ≡ n
-  less n = omega arith
+front_pushed front last = grind (arith, length_pushed front last, take-append_seam front (last ∷ []))
 
 some_pushed : (front : List ℕ) (last : ℕ) → nat_lt 0 (length (front ++ last ∷ [])) ≡ true
 some_pushed front last = le-leb 1 (length (front ++ last ∷ [])) (let h = length_pushed front last in omega arith)
@@ -55,20 +53,7 @@ ends_with front last stop = ap (λ (some : Bool). some && slice_index (front ++ 
 
 -- what the library makes of what stands before an LF
 no_cr_is : (text : List ℕ) → IsBefore (no_cr text) text
-no_cr_is text = cases (has_last text) where
-  nothing : (front : List ℕ) (stop : ℕ) → ◌≢◌ {A = List ℕ} [] (front ++ stop ∷ [])
-  nothing [] stop e = absurd cc
-  nothing (byte ∷ front) stop e = absurd cc
-
-  last_is : (front : List ℕ) (last : ℕ) → (last ≡ 13) ⊎ (last ≢ 13) → IsBefore (no_cr (front ++ last ∷ [])) (front ++ last ∷ [])
-  last_is front last (inl same) =
-      inl (ap (λ byte. front ++ byte ∷ []) same ∙ ap (λ line. line ++ 13 ∷ []) (sym (front_pushed front last) ∙ sym (cond-true _ _ _ (ends_with front last 13 ∙ eq-eqb last 13 same))))
-  last_is front last (inr other) =
-      inr (sym (cond-false _ _ _ (ends_with front last 13 ∙ ne_eqb last 13 other)), λ before e. other (same_from_push front before last 13 e).1)
-
-  cases : (text ≡ []) ⊎ ((front : List ℕ) × (last : ℕ) × (text ≡ front ++ last ∷ [])) → IsBefore (no_cr text) text
-  cases (inl none) = subst (λ bytes. IsBefore (no_cr bytes) bytes) (sym none) (inr (refl, λ front. nothing front 13))
-  cases (inr some) = subst (λ bytes. IsBefore (no_cr bytes) bytes) (sym some.2) (last_is some.0 some.1 (cases_eq some.1 13))
+no_cr_is text = grind (arith, has_last text, front_pushed, cond-true, ends_with, eq-eqb, cond-false, ne_eqb, same_from_push, cases_eq)
 
 ended_is : (text : List ℕ) → without_terminator (text ++ 10 ∷ []) ≡ no_cr text
 ended_is text = cond-true _ _ _ (ends_with text 10 10) ∙ ap no_cr (front_pushed text 10)
@@ -133,8 +118,6 @@ pub few_lines : (bytes : List ℕ) → length (map without_terminator (lines_of 
 few_lines bytes = let h = few_from (length bytes) bytes in let m = length-map (lines_of bytes) without_terminator in omega arith
 
 -- The lines of bytes are one list.
-one_before : (line line' text : List ℕ) → IsBefore line text → IsBefore line' text → line ≡ line'
-one_before line line' text given given' = grind (arith, same_from_push)
 
 none_within : (text rest : List ℕ) → HasNone 10 (text ++ 10 ∷ rest) → ⊥
 none_within [] rest none = none.0 refl
@@ -152,7 +135,7 @@ one_cut bytes (line ∷ lines) [] (inl a) b = absurd (no_nil a.0 a.1 (sym b ∙ 
 one_cut bytes (line ∷ lines) [] (inr a) b = absurd (a.1 (sym a.0 ∙ b))
 one_cut bytes (line ∷ lines) (line' ∷ lines') (inl a) (inl b) =
     let parted = one_parting 10 a.0 b.0 (10 ∷ a.1) (10 ∷ b.1) a.3 b.3 (inr (a.1, refl)) (inr (b.1, refl)) (sym a.2 ∙ b.2) in
-    let first : line ≡ line' = one_before line line' b.0 (subst (IsBefore line) parted.0 a.4) b.4 in
+    let first : line ≡ line' = grind (arith, same_from_push) in
     let rest : lines ≡ lines' = one_cut b.1 lines lines' (subst (λ bytes'. AreLines bytes' lines) (let h : 10 ∷ a.1 ≡ 10 ∷ b.1 = parted.1 in cc) a.5) b.5 in
     cc
 one_cut bytes (line ∷ lines) (line' ∷ lines') (inl a) (inr b) = absurd (none_within a.0 a.1 (subst (HasNone 10) (sym b.0 ∙ a.2) b.2))

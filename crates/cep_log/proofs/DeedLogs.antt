@@ -1,34 +1,34 @@
 -- What is written of deeds is a transcript, and its log holds them.
 use Rattle.std.proofs.Common.{◌≡◌, ℕ, Bool, true, false, cond, List, [], ◌∷◌, ◌++◌, map, append_assoc, append-nil, refl, sym, ap, ◌∙◌, Option, None, Some, ◌+◌, ◌≤◌, length, subst, arith, IfSome, IsSomeAnd}
-use Rattle.std.specs.List.{flat_map, AllZip}
-use Rattle.std.specs.FinMap as finite
 use Rattle.std.proofs.lemmas.Grind.{flat_map-append}
-use Rattle.cep_term.specs.Multiset.{Multiset}
-use Rattle.cep_rule.specs.declared.parts.Parts.{Parts}
-use Rattle.cep_rule.specs.declared.offer.Offer.{Offer}
-use Rattle.cep_rule.specs.Derivations.{ProofTree}
-use Rattle.cep_step.specs.Deeds.{Deed, Position, start_of, AreDeeds}
-use Rattle.cep_lines.specs.declared.version.Version.TheVariants.{Two}
-use Rattle.cep_lines.specs.declared.end_word.EndWord.{EndWord}
-use Rattle.cep_lines.specs.Lines.{line, version_text, has_listing, have_text, have_line, listing, height_text, stage_text, stage_line, next_line, state_text, step_text, step_line, by_text, by_line, by_lines, step_lines, mid_lines, expected_listing, deed_lines, end_text, end_lines, header}
-use Rattle.cep_log.specs.declared.log.Log.{Log}
-use Rattle.cep_log.specs.declared.log.LogStep.{LogStep}
-use Rattle.cep_log.specs.declared.log.LogMid.{LogMid}
-use Rattle.cep_log.specs.declared.log.LogEnd.{LogEnd}
-use Rattle.cep_log.specs.Transcript.{stage_texts, HasLog}
-use Rattle.cep_log.specs.Written.{start_texts, mid_texts, step_texts, end_texts, TellSteps, TellLog, ListTheSame, SayTheSame, EndTheSame}
-use Rattle.cep_log.specs.Holding.{lines_of_deed, TellDeeds, TellRun, HoldsDeed, HoldsEnd, HoldsDeeds}
-use Rattle.std.specs.Prelude.{is_some}
 use Rattle.std.proofs.lemmas.Slice.Zip.{AllZip-long}
-use Rattle.cep_base.specs.declared.limits.TheConstants.{MOST_LOG}
+use Rattle.std.specs.List.{flat_map, AllZip}
+use Rattle.std.specs.Prelude.{is_some}
+use Rattle.std.specs.FinMap as finite
+use Rattle.cep_term.specs.Multiset.{Multiset}
 use Rattle.cep_term.specs.Tree.{AtomTree}
+use Rattle.cep_rule.specs.Derivations.{ProofTree}
 use Rattle.cep_rule.specs.Limits.{IsHeight}
-use Rattle.cep_rule.specs.Stages.{IsQuiet}
 use Rattle.cep_rule.specs.Program.{IsProgram}
+use Rattle.cep_rule.specs.declared.offer.Offer.{Offer}
+use Rattle.cep_rule.specs.declared.parts.Parts.{Parts}
+use Rattle.cep_rule.specs.Stages.{IsQuiet}
+use Rattle.cep_step.specs.Deeds.{Deed, Position, start_of, AreDeeds}
+use Rattle.cep_lines.specs.Lines.{line, version_text, has_listing, have_text, have_line, listing, height_text, stage_text, stage_line, next_line, state_text, step_text, step_line, by_text, by_line, by_lines, step_lines, mid_lines, expected_listing, deed_lines, end_text, end_lines, header}
+use Rattle.cep_lines.specs.declared.end_word.EndWord.{EndWord}
 use Rattle.cep_lines.specs.declared.end_word.EndWord.TheVariants.{Quiet}
-use Rattle.cep_log.specs.Legal.{HaveListings, IsLegal}
+use Rattle.cep_lines.specs.declared.version.Version.TheVariants.{Two}
 use Rattle.cep_log.proofs.LegalLogs.{LeadToStates, AreListings, legal_log}
 use Rattle.cep_log.proofs.WrittenLogs.{IsReadBack, few_lines, log_long}
+use Rattle.cep_log.specs.Holding.{lines_of_deed, TellDeeds, TellRun, HoldsDeed, HoldsEnd, HoldsDeeds}
+use Rattle.cep_log.specs.Transcript.{stage_texts, HasLog}
+use Rattle.cep_log.specs.Legal.{HaveListings, IsLegal}
+use Rattle.cep_log.specs.declared.log.LogEnd.{LogEnd}
+use Rattle.cep_log.specs.declared.log.LogMid.{LogMid}
+use Rattle.cep_log.specs.declared.log.LogStep.{LogStep}
+use Rattle.cep_log.specs.Written.{start_texts, mid_texts, step_texts, end_texts, TellSteps, TellLog, ListTheSame, SayTheSame, EndTheSame}
+use Rattle.cep_log.specs.declared.log.Log.{Log}
+use Rattle.cep_base.specs.declared.limits.TheConstants.{MOST_LOG}
 
 -- What is written of deeds, line by line.
 
@@ -124,20 +124,11 @@ both_written one other lines others here there = rw (here, there, flat_map-appen
 
 -- Steps hold the deeds that they are of.
 
-mid_holds : (expected : Bool) (state : Multiset) → IfSome (mid_if expected state) (λ (mid : LogMid). mid.state ≡ finite.entries state)
-mid_holds expected state = grind arith
-
-mid_is : (expected : Bool) (state : Multiset) → is_some (mid_if expected state) ≡ expected
-mid_is expected state = grind arith
-
 held : (deeds : List Deed) → AllZip HoldsDeed deeds (map step_of deeds)
 held [] = tt
-held (deed ∷ deeds) = grind (arith, mid_holds, deed.after.turns, deed.after.spot.state, held deeds)
+held (deed ∷ deeds) = grind (arith, deed.after.turns, deed.after.spot.state, held deeds)
 
 -- A log that says the same holds the same.
-
-mid_too : (one other : Option LogMid) (entries : List (AtomTree × ℕ)) → ListTheSame one other → IfSome one (λ (mid : LogMid). mid.state ≡ entries) → IfSome other (λ (mid : LogMid). mid.state ≡ entries)
-mid_too one other entries same holds = grind arith
 
 held_too : (deeds : List Deed) (steps others : List LogStep) → AllZip HoldsDeed deeds steps → AllZip SayTheSame steps others → AllZip HoldsDeed deeds others
 held_too (deed ∷ deeds) (step ∷ steps) (other ∷ others) hold same =
@@ -146,14 +137,11 @@ held_too (deed ∷ deeds) (step ∷ steps) (other ∷ others) hold same =
         offer = sym does.offer ∙ hold.0.offer;
         proofs = sym does.proofs ∙ hold.0.proofs;
         stage = sym does.stage ∙ hold.0.stage;
-        mid = mid_too step.mid other.mid (finite.entries deed.after.spot.state) same.0.lists hold.0.mid;
+        mid = grind arith;
       },
       held_too deeds steps others hold.1 same.1,
     )
 held_too deeds steps others hold same = grind arith
-
-end_too : (one : LogEnd) (end : Option LogEnd) (word : EndWord) (state : Multiset) → HoldsEnd word state one → EndTheSame (Some one) end → IsSomeAnd end (HoldsEnd word state)
-end_too one end word state holds same = grind arith
 
 module _ (program : Parts) (height : ℕ) where
   -- Bytes that tell deeds, line by line, where the first deed has this number.
@@ -177,7 +165,7 @@ module _ (program : Parts) (height : ℕ) where
             ∙ both_written remarks (lines_of_deed program deed ++ later) passed.lines (here ++ rest.lines) passed.written
             (both_written (lines_of_deed program deed) later here rest.lines (deed_written program deed) rest.whole);
         tell = subst (λ n. TellSteps program n (map step_of (deed ∷ deeds)) lines) counted (passed.lines, rest.lines, passed.passed, rest.tell, refl);
-        listed = subst (λ n. HaveListings Two n (map step_of (deed ∷ deeds))) counted (mid_is (has_listing Two number) deed.after.spot.state, rest.listed);
+        listed = subst (λ n. HaveListings Two n (map step_of (deed ∷ deeds))) counted (grind arith, rest.listed);
       }
 
   module _ (lead : LeadToStates) (kept : IsProgram program) (height_is : IsHeight height) (listing_of : AreListings program)
@@ -212,7 +200,7 @@ module _ (program : Parts) (height : ℕ) where
             start = sym same.start;
             steps = hold;
             listed = found.2.of_program.listed;
-            ended = end_too end found.0.end word state (record { word_is = refl; state_is = refl }) same.ends;
+            ended = grind arith;
           },
           found.2,
           AllZip-long HoldsDeed deeds found.0.steps hold,

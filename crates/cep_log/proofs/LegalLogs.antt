@@ -1,42 +1,42 @@
 -- A log that holds lawful deeds is legal, and the listing of a state is read as its entries.
 use Rattle.std.proofs.Common.{◌≡◌, ◌↔◌, ℕ, ◌<◌, ◌≤◌, List, ◌∷◌, length, sym, ◌∙◌, subst, arith, Option, None, Some, IfSome, IsSome, IsSomeAnd, inl, inr, suc, ◌+◌, [], ◌++◌, map, refl, ap, append_assoc}
-use Rattle.std.specs.List.{AllByRecursion, AllZip}
-use Rattle.std.specs.FinMap as finite
 use Rattle.std.proofs.lemmas.List.{length-map, append-nil}
+use Rattle.std.specs.List.{AllByRecursion, AllZip}
+use Rattle.std.specs.declared.cmp.Ordering.TheVariants.{Less}
+use Rattle.std.specs.Prelude.{slice_get}
+use Rattle.std.specs.FinMap as finite
 use Rattle.cep_base.proofs.Lists.{holds_at, all_from_places}
 use Rattle.cep_base.specs.declared.limits.TheConstants.{MOST_HEIGHT, MOST_LOG}
-use Rattle.cep_term.specs.Tree.{AtomTree, Tree}
+use Rattle.cep_term.specs.BagLaws.{BagLaws}
 use Rattle.cep_term.specs.Multiset.{Multiset, IsEntry, count_of}
-use Rattle.cep_rule.specs.declared.rule.Rule.{Rule}
-use Rattle.cep_rule.specs.declared.parts.Parts.{Parts}
-use Rattle.cep_rule.specs.declared.offer.Offer.{Offer}
-use Rattle.cep_rule.specs.Limits.{IsHeight}
-use Rattle.cep_rule.specs.State.{IsState, Fits}
-use Rattle.cep_rule.specs.Instances.{full_instance, full_instances}
+use Rattle.cep_term.specs.Order.{atom_cmp}
+use Rattle.cep_term.specs.Tree.{AtomTree, Tree}
 use Rattle.cep_rule.specs.Derivations.{ProofTree, proof_height}
+use Rattle.cep_rule.specs.Instances.{full_instance, full_instances}
+use Rattle.cep_rule.specs.declared.signature.Signature.{Signature}
+use Rattle.cep_rule.specs.Limits.{IsHeight}
 use Rattle.cep_rule.specs.Stages.{IsQuiet}
-use Rattle.cep_rule.specs.Steps.{Spot, AreProofs, IsMachineStep, start_spot, MakesFit}
 use Rattle.cep_rule.specs.Program.{IsTypedRule, IsDividedRule, IsProgram}
+use Rattle.cep_rule.specs.Step.{Step}
+use Rattle.cep_rule.specs.Steps.{Spot, AreProofs, IsMachineStep, start_spot, MakesFit}
+use Rattle.cep_rule.specs.State.{IsState, Fits}
+use Rattle.cep_rule.specs.Typing.{AreValues}
+use Rattle.cep_rule.specs.declared.offer.Offer.{Offer}
+use Rattle.cep_rule.specs.declared.parts.Parts.{Parts}
+use Rattle.cep_rule.specs.declared.rule.Rule.{Rule}
+use Rattle.cep_log.specs.Holding.{HoldsDeed, HoldsEnd, HoldsDeeds}
 use Rattle.cep_log.specs.declared.log.Log.{Log}
-use Rattle.cep_log.specs.declared.log.LogStep.{LogStep}
-use Rattle.cep_log.specs.declared.log.LogMid.{LogMid}
 use Rattle.cep_log.specs.declared.log.LogEnd.{LogEnd}
+use Rattle.cep_log.specs.declared.so_far.SoFar.{SoFar}
 use Rattle.cep_log.specs.Legal.{IsListing, IsStepOf, AreLegalSteps, IsLegalEnd, IsLegal, IsHave, AtomsRise}
+use Rattle.cep_log.specs.declared.log.LogStep.{LogStep}
+use Rattle.cep_log.specs.Transcript.{IsPassedOver, IsBehind, GoesOnListing, Leads}
+use Rattle.cep_log.specs.declared.so_far.SoFar.TheVariants.{Whole, Listed, Ended}
+use Rattle.cep_log.specs.declared.log.LogMid.{LogMid}
+use Rattle.cep_lines.specs.Lines.{have_text}
 use Rattle.cep_lines.specs.declared.end_word.EndWord.{EndWord}
 use Rattle.cep_lines.specs.declared.end_word.EndWord.TheVariants.{Quiet}
 use Rattle.cep_step.specs.Deeds.{Position, start_of, Deed, IsDeed, AreDeeds}
-use Rattle.cep_log.specs.Holding.{HoldsDeed, HoldsEnd, HoldsDeeds}
-use Rattle.cep_rule.specs.declared.signature.Signature.{Signature}
-use Rattle.cep_rule.specs.Typing.{AreValues}
-use Rattle.cep_rule.specs.Step.{Step}
-use Rattle.std.specs.Prelude.{slice_get}
-use Rattle.std.specs.declared.cmp.Ordering.TheVariants.{Less}
-use Rattle.cep_term.specs.Order.{atom_cmp}
-use Rattle.cep_term.specs.BagLaws.{BagLaws}
-use Rattle.cep_log.specs.declared.so_far.SoFar.{SoFar}
-use Rattle.cep_log.specs.declared.so_far.SoFar.TheVariants.{Whole, Listed, Ended}
-use Rattle.cep_lines.specs.Lines.{have_text}
-use Rattle.cep_log.specs.Transcript.{IsPassedOver, IsBehind, GoesOnListing, Leads}
 
 -- A log that holds lawful deeds is legal.
 
@@ -59,10 +59,6 @@ pub record IsKept (program : Parts) (spot : Spot) : Type 0 where
 -- The entries of states that fit are listings.
 abbrev pub AreListings : Parts → Type 0
 AreListings program = (state : Multiset) → IsState program.signature state → Fits state → IsListing program.signature (finite.entries state)
-
--- a listing that is a state's is a listing
-mid_listing : (program : Parts) (found : Option LogMid) (state : Multiset) → IsListing program.signature (finite.entries state) → IfSome found (λ (mid : LogMid). mid.state ≡ finite.entries state) → IfSome found (λ (mid : LogMid). IsListing program.signature mid.state)
-mid_listing program found state is same = grind arith
 
 -- Steps that make fit atoms lead from states to states.
 abbrev pub LeadToStates : Type 0
@@ -92,7 +88,7 @@ module _ (lead : LeadToStates) (program : Parts) (kept : IsProgram program) (hei
     stage = subst (λ (named : Option ℕ). IsSome named ↔ IsSome rule.next) (sym stage) ((λ some. some), (λ some. some));
     in_range = subst (λ (named : Option ℕ). IfSome named (λ other. other < length program.stages)) (sym stage)
         (holds_at (λ (r : Rule). IfSome r.next (λ other. other < length program.stages)) program.rules step.offer.rule rule kept.in_range.next_stages is.numbered);
-    listing = mid_listing program step.mid new.state (listing_of new.state after.is_state after.fits) mid;
+    listing = grind arith;
   }
 
   -- the step of a deed, as the log holds it
@@ -134,9 +130,6 @@ module _ (lead : LeadToStates) (program : Parts) (kept : IsProgram program) (hei
     ends_listed None ended = absurd ended
     ends_listed (Some end) ended = listed_end end ended
 
-    ends_legal : (end : Option LogEnd) → IsSomeAnd end (HoldsEnd word last.spot.state) → IsSomeAnd end (IsLegalEnd program height last.spot)
-    ends_legal end ended = grind (arith, legal_end)
-
     pub legal_log : log.lines ≤ MOST_LOG → length log.steps ≤ log.lines → IsLegal program log
     legal_log lines few = record {
       of_program = record {
@@ -153,7 +146,7 @@ module _ (lead : LeadToStates) (program : Parts) (kept : IsProgram program) (hei
       start = holds.start;
       last = last.spot;
       steps = subst (λ height. AreLegalSteps program height log.steps (start_spot program) last.spot) (sym holds.height_is) held.legal;
-      ending = subst (λ height. IsSomeAnd log.end (IsLegalEnd program height last.spot)) (sym holds.height_is) (ends_legal log.end holds.ended);
+      ending = subst (λ height. IsSomeAnd log.end (IsLegalEnd program height last.spot)) (sym holds.height_is) (grind (arith, legal_end));
     }
 
 -- The listing of a state, as it is written, is read as its entries.

@@ -1,36 +1,36 @@
 -- What lines of each kind say, and that it is one thing.
 use Rattle.std.proofs.Common.{◌≡◌, ◌≢◌, ◌⊎◌, inl, inr, ℕ, suc, ◌+◌, ◌<◌, ◌≤◌, ◌^◌, ◌&&◌, List, [], ◌∷◌, ◌++◌, length, map, Bool, true, false, Some, sym, ap, ◌∙◌, subst, arith, bytes_eq, Option, None, refl}
-use Rattle.std.specs.Prelude.{codes, decimal, slice_get, MatchOption, Contains, IsTrue, not, ◌↔◌, MatchResult, Result, Ok, Err}
-use Rattle.std.specs.Char.{is_ascii_digit}
 use Rattle.std.proofs.lemmas.Bool.{false≢true}
-use Rattle.std.specs.Str.{all_ascii_digits}
-use Rattle.std.proofs.lemmas.Str.Parse.{numerals_by_value, tells_all_ascii_digits}
-use Rattle.std.proofs.lemmas.Fmt.{decimal_injective, digits_decimal}
 use Rattle.std.proofs.lemmas.Slice.Eq.{bytes_eq-Decides}
+use Rattle.std.specs.Str.{all_ascii_digits}
+use Rattle.std.proofs.lemmas.Fmt.{decimal_injective, digits_decimal}
+use Rattle.std.proofs.lemmas.Option.{slice_get_within}
+use Rattle.std.proofs.lemmas.Str.Parse.{numerals_by_value, tells_all_ascii_digits}
+use Rattle.std.specs.Char.{is_ascii_digit}
+use Rattle.std.specs.Prelude.{codes, decimal, slice_get, MatchOption, Contains, IsTrue, not, ◌↔◌, MatchResult, Result, Ok, Err}
 use Rattle.cep_base.proofs.Lists.{none_some, some_same, holds_at}
 use Rattle.cep_base.specs.declared.limits.TheConstants.{MOST_COPIES, MOST_HEIGHT}
 use Rattle.cep_term.specs.Tree.{AtomTree}
+use Rattle.cep_rule.specs.Derivations.{ProofTree}
+use Rattle.cep_rule.specs.Names.{AllDiffer}
 use Rattle.cep_rule.specs.declared.rule.Rule.{Rule}
+use Rattle.cep_rule.specs.Shapes.{IsOfferOf, IsProofOf}
+use Rattle.cep_rule.specs.declared.offer.Offer.{Offer}
 use Rattle.cep_rule.specs.declared.parts.Parts.{Parts}
 use Rattle.cep_rule.specs.declared.parts.Stage.{Stage}
-use Rattle.cep_rule.specs.declared.offer.Offer.{Offer}
-use Rattle.cep_rule.specs.Names.{AllDiffer}
-use Rattle.cep_rule.specs.Derivations.{ProofTree}
-use Rattle.cep_rule.specs.Shapes.{IsOfferOf, IsProofOf}
-use Rattle.cep_text.specs.Texts.{atom_text, offer_text, proof_text, IsTypedGround}
-use Rattle.cep_lines.specs.declared.end_word.EndWord.{EndWord}
-use Rattle.cep_log.specs.declared.log.Log.{Log}
-use Rattle.cep_log.specs.declared.log.LogStep.{LogStep}
-use Rattle.cep_lines.specs.declared.version.Version.{Version}
-use Rattle.cep_log.specs.declared.so_far.SoFar.{SoFar}
-use Rattle.cep_log.specs.declared.so_far.SoFar.TheVariants.{Nothing, Begun, Height, Whole, Within, Unlisted, Listed, Ended}
-use Rattle.cep_lines.specs.Lines.{version_text, stage_name, ending_word, state_text}
-use Rattle.cep_log.specs.Transcript.{IsHaveLine, IsStageLine, IsStepLine, IsByLine, GoesOnListing, GoesOnStep, BeginsStep, BeginsNext, Becomes, MovesOn, Leads, log_begun, step_begun, log_listed, with_step, NamesNoRule, IsEndLine, IsBehind}
-use Rattle.cep_log.proofs.Parted.{HasNone, one_parting, Stops}
-use Rattle.std.proofs.lemmas.Option.{slice_get_within}
 use Rattle.cep_text.specs.Reads.{IsAtomText}
 use Rattle.cep_text.specs.StageNames.{IsStageNamed}
+use Rattle.cep_text.specs.Texts.{atom_text, offer_text, proof_text, IsTypedGround}
+use Rattle.cep_lines.specs.Lines.{version_text, stage_name, ending_word, state_text}
+use Rattle.cep_lines.specs.declared.end_word.EndWord.{EndWord}
+use Rattle.cep_lines.specs.declared.version.Version.{Version}
+use Rattle.cep_log.proofs.Parted.{HasNone, one_parting, Stops}
 use Rattle.cep_log.specs.declared.log.LogMid.{LogMid}
+use Rattle.cep_log.specs.declared.so_far.SoFar.{SoFar}
+use Rattle.cep_log.specs.Transcript.{IsHaveLine, IsStageLine, IsStepLine, IsByLine, GoesOnListing, GoesOnStep, BeginsStep, BeginsNext, Becomes, MovesOn, Leads, log_begun, log_listed, with_step, NamesNoRule, IsEndLine, IsBehind}
+use Rattle.cep_log.specs.declared.log.Log.{Log}
+use Rattle.cep_log.specs.declared.log.LogStep.{LogStep}
+use Rattle.cep_log.specs.declared.so_far.SoFar.TheVariants.{Nothing, Begun, Height, Whole, Within, Unlisted, Listed, Ended}
 
 -- What a line says, and what was read with it, is one thing.
 
@@ -63,30 +63,21 @@ stage_there : (stages : List Stage) (i : ℕ) → i < length stages → slice_ge
 stage_there (stage ∷ stages) (suc i) h = stage_there stages i (omega arith)
 stage_there stages i h = grind arith
 
-words_apart : (a b : EndWord) → bytes_eq (ending_word a) (ending_word b) ≡ true → a ≡ b
-words_apart a b t = grind arith
-
 pub one_word : (a b : EndWord) → ending_word a ≡ ending_word b → a ≡ b
-one_word a b e = words_apart a b ((bytes_eq-Decides (ending_word a) (ending_word b)).1 e)
-
-versions_apart : (a b : Version) → bytes_eq (version_text a) (version_text b) ≡ true → a ≡ b
-versions_apart a b t = grind arith
+one_word a b e = grind arith
 
 one_version : (a b : Version) → version_text a ≡ version_text b → a ≡ b
-one_version a b e = versions_apart a b ((bytes_eq-Decides (version_text a) (version_text b)).1 e)
-
-first_byte : (a b : ℕ) (xs ys : List ℕ) → a ∷ xs ≡ b ∷ ys → a ≡ b
-first_byte a b xs ys e = cc
+one_version a b e = grind arith
 
 -- A listing's line, a step's and an end's begin with different bytes.
 have_or_step : (xs ys : List ℕ) → codes "have " ++ xs ≡ codes "step " ++ ys → ⊥
-have_or_step xs ys e = let h : ◌≡◌ {A = ℕ} 104 115 = first_byte 104 115 (97 ∷ 118 ∷ 101 ∷ 32 ∷ xs) (116 ∷ 101 ∷ 112 ∷ 32 ∷ ys) e in omega arith
+have_or_step xs ys e = let h : ◌≡◌ {A = ℕ} 104 115 = cc in omega arith
 
 have_or_end : (xs ys : List ℕ) → codes "have " ++ xs ≡ codes "end " ++ ys → ⊥
-have_or_end xs ys e = let h : ◌≡◌ {A = ℕ} 104 101 = first_byte 104 101 (97 ∷ 118 ∷ 101 ∷ 32 ∷ xs) (110 ∷ 100 ∷ 32 ∷ ys) e in omega arith
+have_or_end xs ys e = let h : ◌≡◌ {A = ℕ} 104 101 = cc in omega arith
 
 step_or_end : (xs ys : List ℕ) → codes "step " ++ xs ≡ codes "end " ++ ys → ⊥
-step_or_end xs ys e = let h : ◌≡◌ {A = ℕ} 115 101 = first_byte 115 101 (116 ∷ 101 ∷ 112 ∷ 32 ∷ xs) (110 ∷ 100 ∷ 32 ∷ ys) e in omega arith
+step_or_end xs ys e = let h : ◌≡◌ {A = ℕ} 115 101 = cc in omega arith
 
 -- no text is that of two values
 pub record OneValue (program : Parts) : Type 0 where
@@ -96,8 +87,6 @@ pub record OneValue (program : Parts) : Type 0 where
   pub stages : AllDiffer (map (λ stage. stage.name) program.stages)
 
 module _ (program : Parts) (laws : OneValue program) where
-  one_height : (line : List ℕ) (m n : ℕ) → m ≤ MOST_HEIGHT → n ≤ MOST_HEIGHT → line ≡ codes "height " ++ decimal m → line ≡ codes "height " ++ decimal n → m ≡ n
-  one_height line m n a b e f = grind (arith, decimal_injective)
 
   one_stage : (line : List ℕ) (i j : ℕ) → IsStageLine program line i → IsStageLine program line j → i ≡ j
   one_stage line i j a b = grind (arith, number_named, stage_there program.stages i a.in_range, stage_there program.stages j b.in_range, program.stages, a.written, b.written, laws.stages, a.in_range, b.in_range)
@@ -139,14 +128,7 @@ module _ (program : Parts) (laws : OneValue program) where
     cases (inr p) (inr q) = p.3 ∙ (ap (λ rule. with_step rule log (record step { stage = Some p.0 })) same_rule ∙ (ap (λ stage. with_step b.rule log (record step { stage = Some stage })) (one_stage line p.0 q.0 p.2 q.2) ∙ sym q.3))
 
   one_begun : (number : ℕ) (line : List ℕ) (log : Log) (new new' : SoFar) → BeginsStep program number line log new → BeginsStep program number line log new' → new ≡ new'
-  one_begun number line log new new' a b =
-      let offers : a.offer ≡ b.offer = one_step line a.offer b.offer a.said b.said in
-      let rules : a.rule ≡ b.rule = one_rule b.offer.rule a.rule b.rule (subst (λ offer. slice_get program.rules offer.rule ≡ Some a.rule) offers a.numbered) b.numbered in
-      a.step ∙ (ap (λ rule. with_step rule log (step_begun number a.offer)) rules ∙ (ap (λ offer. with_step b.rule log (step_begun number offer)) offers ∙ sym b.step))
-
-  -- a line of a listing begins neither a step nor the end
-  listed_or_next : (number : ℕ) (line : List ℕ) (old more : List (AtomTree × ℕ)) (log : Log) (new : SoFar) → GoesOnListing program line old more → BeginsNext program number line log new → ⊥
-  listed_or_next number line old more log new goes given = grind (arith, have_or_step, have_or_end)
+  one_begun number line log new new' a b = grind (arith, one_step line a.offer b.offer a.said b.said, one_rule)
 
   one_next : (number : ℕ) (line : List ℕ) (log : Log) (new new' : SoFar) → BeginsNext program number line log new → BeginsNext program number line log new' → new ≡ new'
   one_next number line log new new' (inl a) (inl b) = one_begun number line log new new' a b
@@ -156,17 +138,17 @@ module _ (program : Parts) (laws : OneValue program) where
 
   pub one_taken : (number : ℕ) (line : List ℕ) (old new new' : SoFar) → Becomes program number line old new → Becomes program number line old new' → new ≡ new'
   one_taken number line Nothing new new' a b = a.2 ∙ (ap Begun (one_version a.0 b.0 (sym a.1 ∙ b.1)) ∙ sym b.2)
-  one_taken number line (Begun version) new new' a b = a.3 ∙ (ap (Height version) (one_height line a.0 b.0 a.1.low b.1.low a.2 b.2) ∙ sym b.3)
+  one_taken number line (Begun version) new new' a b = a.3 ∙ (ap (Height version) (grind (arith, decimal_injective)) ∙ sym b.3)
   one_taken number line (Height version height) new new' a b = a.2 ∙ (ap (λ stage. Whole (log_begun version height number stage)) (one_stage line a.0 b.0 a.1 b.1) ∙ sym b.2)
   one_taken number line (Whole log) new new' (inl a) (inl b) = a.whole ∙ (ap (λ start. Whole (record log { start = start })) (one_listing line log.start a.start b.start a.listed b.listed) ∙ sym b.whole)
-  one_taken number line (Whole log) new new' (inl a) (inr b) = absurd (listed_or_next number line log.start a.start log new' a.listed b)
-  one_taken number line (Whole log) new new' (inr a) (inl b) = absurd (listed_or_next number line log.start b.start log new b.listed a)
+  one_taken number line (Whole log) new new' (inl a) (inr b) = absurd (grind (arith, have_or_step, have_or_end))
+  one_taken number line (Whole log) new new' (inr a) (inl b) = absurd (grind (arith, have_or_step, have_or_end))
   one_taken number line (Whole log) new new' (inr a) (inr b) = one_next number line log new new' a b
   one_taken number line (Within log step) new new' a b = one_own line log step new new' a b
   one_taken number line (Unlisted log step) new new' a b = a.1 ∙ sym b.1
   one_taken number line (Listed log step mid) new new' (inl a) (inl b) = a.more ∙ (ap (λ state. Listed log step (record mid { state = state })) (one_listing line mid.state a.state b.state a.listed b.listed) ∙ sym b.more)
-  one_taken number line (Listed log step mid) new new' (inl a) (inr b) = absurd (listed_or_next number line mid.state a.state (log_listed log step mid) new' a.listed b)
-  one_taken number line (Listed log step mid) new new' (inr a) (inl b) = absurd (listed_or_next number line mid.state b.state (log_listed log step mid) new b.listed a)
+  one_taken number line (Listed log step mid) new new' (inl a) (inr b) = absurd (grind (arith, have_or_step, have_or_end))
+  one_taken number line (Listed log step mid) new new' (inr a) (inl b) = absurd (grind (arith, have_or_step, have_or_end))
   one_taken number line (Listed log step mid) new new' (inr a) (inr b) = one_next number line (log_listed log step mid) new new' a b
   one_taken number line (Ended log end) new new' a b = a.ended ∙ (ap (λ state. Ended log (record end { state = state })) (one_listing line end.state a.state b.state a.listed b.listed) ∙ sym b.ended)
 
@@ -206,10 +188,6 @@ none_at : {A : Type 0} (xs : List A) (i : ℕ) → i < length xs → slice_get x
 none_at (x ∷ xs) (suc i) within e = none_at xs i (omega arith) e
 none_at xs i within e = grind arith
 
--- the stage that the line names
-stage_told : (program : Parts) (line name : List ℕ) (stage : ℕ) → line ≡ codes "stage " ++ name → IsStageNamed program.stages stage name → IsStageLine program line stage
-stage_told program line name stage is named = grind (arith, slice_get_within, program.stages, named.0, named.1, named.2)
-
 stage_untold : (program : Parts) (line name : List ℕ) (stage : ℕ) → line ≡ codes "stage " ++ name → ¬ (IsStageNamed program.stages stage name) → IsStageLine program line stage → ⊥
 stage_untold program line name stage is none said = grind (arith, none_at, program.stages, said.written, said.in_range)
 
@@ -217,7 +195,7 @@ pub stage_line_told : (program : Parts) (line name : List ℕ) (found : Option �
     → MatchOption found (Unit {0}) (λ stage. IsStageNamed program.stages stage name) → MatchOption found ((stage : ℕ) → ¬ (IsStageNamed program.stages stage name)) (λ stage. Unit {0})
     → MatchOption found ((stage : ℕ) → ¬ (IsStageLine program line stage)) (IsStageLine program line)
 stage_line_told program line name None is some none = λ stage. stage_untold program line name stage is (none stage)
-stage_line_told program line name (Some stage) is some none = stage_told program line name stage is some
+stage_line_told program line name (Some stage) is some none = grind (arith, slice_get_within, program.stages, some.0, some.1, some.2)
 
 -- a line of a step that names a rule, or none
 pub named_as : (program : Parts) (line rest word behind : List ℕ) → line ≡ codes "step " ++ rest → rest ≡ word ++ behind → HasNone 32 word → Stops 32 behind → (found : Bool)
@@ -239,8 +217,7 @@ named_as program line rest word behind is cut none stops found tells = (there fo
   back true tells unknown =
       let some = tells.0 refl in
       let h : codes "step " ++ rest ≡ codes "step " ++ (unknown.name ++ unknown.rest) = sym is ∙ unknown.begins in
-      let names : word ≡ unknown.name = (one_parting 32 word unknown.name behind unknown.rest none unknown.unspaced stops unknown.cut (sym cut ∙ cc)).0 in
-      absurd (unknown.unknown some.0 some.1 (some.2 ∙ names))
+      absurd (unknown.unknown some.0 some.1 (some.2 ∙ ((one_parting 32 word unknown.name behind unknown.rest none unknown.unspaced stops unknown.cut (sym cut ∙ cc)).0)))
 
 -- the number of the listing that the line begins
 pub state_said : (line word written : List ℕ) (number : ℕ) (same : Bool) → line ≡ codes "state " ++ word → same ≡ bytes_eq word written → written ≡ decimal number → (IsTrue same ↔ (line ≡ state_text number))

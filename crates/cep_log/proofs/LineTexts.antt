@@ -1,25 +1,25 @@
 -- The lines that are written of a log can each be written as one line.
 use Rattle.std.proofs.Common.{◌≡◌, ◌≢◌, ℕ, ◌<◌, ◌==◌, ◌&&◌, not, List, [], ◌∷◌, ◌++◌, map, Bool, true, false, Option, refl, sym, ap, ◌∙◌, arith}
-use Rattle.std.specs.Prelude.{codes, decimal, slice_get, IfSome, length}
-use Rattle.std.specs.List.{AllByRecursion}
 use Rattle.std.proofs.lemmas.Bool.{and_parts}
+use Rattle.std.specs.List.{AllByRecursion}
+use Rattle.std.specs.Prelude.{codes, decimal, slice_get, IfSome, length}
 use Rattle.cep_base.proofs.Elements.{both_all}
 use Rattle.cep_term.specs.Tree.{AtomTree}
-use Rattle.cep_rule.specs.declared.parts.Parts.{Parts}
-use Rattle.cep_rule.specs.declared.offer.Offer.{Offer}
 use Rattle.cep_rule.specs.Derivations.{ProofTree}
-use Rattle.cep_rule.specs.Shapes.{IsOfferOf}
 use Rattle.cep_rule.specs.Program.{IsProgram}
-use Rattle.cep_text.specs.Texts.{atom_text, offer_text, proof_text}
-use Rattle.cep_lines.specs.declared.version.Version.{Version}
-use Rattle.cep_lines.specs.declared.end_word.EndWord.{EndWord}
+use Rattle.cep_rule.specs.Shapes.{IsOfferOf}
+use Rattle.cep_rule.specs.declared.offer.Offer.{Offer}
+use Rattle.cep_rule.specs.declared.parts.Parts.{Parts}
+use Rattle.cep_text.specs.Texts.{offer_text, proof_text}
 use Rattle.cep_lines.specs.Lines.{version_text, height_text, stage_name, stage_text, have_text, step_text, by_text, state_text, end_text}
-use Rattle.cep_log.specs.declared.log.LogMid.{LogMid}
-use Rattle.cep_log.specs.declared.log.LogEnd.{LogEnd}
-use Rattle.cep_log.specs.Legal.{IsHave, IsListing}
-use Rattle.cep_log.specs.Transcript.{IsOneLine, IsReadable, stage_texts}
-use Rattle.cep_log.specs.Written.{mid_texts, end_texts}
+use Rattle.cep_lines.specs.declared.end_word.EndWord.{EndWord}
+use Rattle.cep_lines.specs.declared.version.Version.{Version}
 use Rattle.cep_log.proofs.SameLogs.{decimal_one, atom_one, offer_one, proof_one, stage_one}
+use Rattle.cep_log.specs.Transcript.{IsOneLine, IsReadable, stage_texts}
+use Rattle.cep_log.specs.Legal.{IsHave, IsListing}
+use Rattle.cep_log.specs.Written.{mid_texts, end_texts}
+use Rattle.cep_log.specs.declared.log.LogEnd.{LogEnd}
+use Rattle.cep_log.specs.declared.log.LogMid.{LogMid}
 
 -- Literals are told by a test.
 
@@ -51,9 +51,6 @@ height_one height = joined (codes "height ") (decimal height) (literal (codes "h
 state_one : (number : ℕ) → IsOneLine (state_text number)
 state_one number = joined (codes "state ") (decimal number) (literal (codes "state ") refl) (decimal_one number)
 
-end_one : (word : EndWord) → IsOneLine (end_text word)
-end_one word = grind (arith, literal)
-
 -- Lines that are made of parts of a program.
 
 module _ (program : Parts) (is : IsProgram program) where
@@ -64,10 +61,7 @@ module _ (program : Parts) (is : IsProgram program) where
   step_text_one offer of = joined (codes "step ") (offer_text program offer) (literal (codes "step ") refl) (offer_one program is offer of)
 
   have_one : (entry : AtomTree × ℕ) → IsHave program.signature entry → IsOneLine (have_text program.signature entry)
-  have_one entry have =
-      joined (codes "have ") (decimal entry.1 ++ (codes " " ++ atom_text program.signature entry.0)) (literal (codes "have ") refl)
-      (joined (decimal entry.1) (codes " " ++ atom_text program.signature entry.0) (decimal_one entry.1)
-      (joined (codes " ") (atom_text program.signature entry.0) (literal (codes " ") refl) (atom_one program is entry.0 have.atom)))
+  have_one entry have = grind (arith, joined, literal, decimal_one, atom_one)
 
   pub haves_one : (entries : List (AtomTree × ℕ)) → AllByRecursion (IsHave program.signature) entries → AllByRecursion IsOneLine (map (have_text program.signature) entries)
   haves_one [] all = tt
@@ -84,4 +78,4 @@ module _ (program : Parts) (is : IsProgram program) where
   mids_one number mid listing = grind (arith, state_one, haves_one)
 
   pub ends_one : (end : Option LogEnd) → IfSome end (λ end. IsListing program.signature end.state) → AllByRecursion IsOneLine (end_texts program end)
-  ends_one end listing = grind (arith, end_one, haves_one)
+  ends_one end listing = grind (arith, haves_one)

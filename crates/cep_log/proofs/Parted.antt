@@ -1,7 +1,7 @@
 -- Bytes that are parted at the first of some byte.
-use Rattle.std.proofs.Common.{◌≡◌, ◌≢◌, ◌⊎◌, inl, inr, ℕ, List, [], ◌∷◌, ◌++◌, refl, sym, ap, ◌∙◌, arith}
-use Rattle.std.specs.List.{AllByRecursion}
+use Rattle.std.proofs.Common.{◌≡◌, ◌≢◌, ◌⊎◌, inl, inr, ℕ, List, [], ◌∷◌, ◌++◌, refl, ap, arith}
 use Rattle.std.proofs.lemmas.Bool.{cases_eq}
+use Rattle.std.specs.List.{AllByRecursion}
 
 -- none of the bytes is this one
 abbrev pub HasNone : ℕ → List ℕ → Type 0
@@ -11,17 +11,11 @@ HasNone stop bytes = AllByRecursion (λ byte. byte ≢ stop) bytes
 abbrev pub Stops : ℕ → List ℕ → Type 0
 Stops stop rest = (rest ≡ []) ⊎ ((behind : List ℕ) × (rest ≡ stop ∷ behind))
 
-stops_not_within : (stop byte : ℕ) (bytes rest : List ℕ) → byte ≢ stop → Stops stop rest → rest ≡ byte ∷ bytes → ⊥
-stops_not_within stop byte bytes rest other stops e = cases stops where
-  cases : Stops stop rest → ⊥
-  cases (inl none) = let h : byte ∷ bytes ≡ [] = sym e ∙ none in cc
-  cases (inr some) = let h : byte ∷ bytes ≡ stop ∷ some.0 = sym e ∙ some.1 in let same : byte ≡ stop = cc in other same
-
 -- two ways to part the same bytes are one
 pub one_parting : (stop : ℕ) (one other rest rest' : List ℕ) → HasNone stop one → HasNone stop other → Stops stop rest → Stops stop rest' → one ++ rest ≡ other ++ rest' → (one ≡ other) × (rest ≡ rest')
 one_parting stop [] [] rest rest' a b s t e = (refl, e)
 one_parting stop (x ∷ xs) (y ∷ ys) rest rest' a b s t e = grind (arith, one_parting stop xs ys rest rest' a.1 b.1 s t cc, (one_parting stop xs ys rest rest' a.1 b.1 s t cc).0)
-one_parting stop one other rest rest' a b s t e = grind (arith, stops_not_within)
+one_parting stop one other rest rest' a b s t e = grind arith
 
 -- bytes are parted at the first stop byte, or have none
 pub parting : (stop : ℕ) (bytes : List ℕ) → ((text : List ℕ) × (rest : List ℕ) × (bytes ≡ text ++ stop ∷ rest) × HasNone stop text) ⊎ HasNone stop bytes

@@ -1,35 +1,35 @@
 -- The lines that were read so far, and the log that they say.
 use Rattle.std.proofs.Common.{◌≡◌, ◌⊎◌, inl, inr, ℕ, suc, ◌+◌, ◌-◌, ◌<◌, ◌≤◌, ◌&&◌, ◌||◌, List, [], ◌∷◌, ◌++◌, length, Bool, true, false, Option, Some, None, refl, sym, ap, ◌∙◌, subst, arith, length-append, add-one, map, append_assoc}
-use Rattle.std.specs.Prelude.{slice_get, nat_le, is_none, is_some, IsSome, IfSome, IsSomeAnd, ◌↔◌, if◌then◌else◌}
-use Rattle.std.specs.List.{AllByRecursion}
-use Rattle.std.specs.declared.cmp.Ordering.TheVariants.{Less}
 use Rattle.std.proofs.lemmas.Bool.{leb-true, le-leb}
+use Rattle.std.proofs.lemmas.Option.{slice_get_within}
+use Rattle.std.specs.declared.cmp.Ordering.TheVariants.{Less}
+use Rattle.std.proofs.lemmas.List.{append-nil}
+use Rattle.std.specs.Prelude.{slice_get, nat_le, is_none, is_some, IsSome, IfSome, IsSomeAnd, ◌↔◌, if◌then◌else◌}
+use Rattle.std.specs.Cmp.{IsTotalOrder}
+use Rattle.std.specs.List.{AllByRecursion}
 use Rattle.cep_base.proofs.Lists.{none_some, some_same, all_pushed}
 use Rattle.cep_base.specs.declared.limits.TheConstants.{MOST_HEIGHT, MOST_LOG}
-use Rattle.cep_term.specs.Tree.{AtomTree}
 use Rattle.cep_term.specs.Order.{atom_cmp}
-use Rattle.cep_rule.specs.declared.rule.Rule.{Rule}
-use Rattle.cep_rule.specs.declared.parts.Parts.{Parts}
-use Rattle.cep_rule.specs.Limits.{IsHeight}
-use Rattle.cep_rule.specs.Typing.{AreValues}
+use Rattle.cep_term.specs.Tree.{AtomTree}
 use Rattle.cep_rule.specs.Derivations.{proof_height, ProofTree}
-use Rattle.cep_log.specs.declared.log.Log.{Log}
-use Rattle.cep_log.specs.declared.log.LogStep.{LogStep}
-use Rattle.cep_log.specs.declared.log.LogMid.{LogMid}
-use Rattle.cep_lines.specs.declared.version.Version.{Version}
-use Rattle.cep_lines.specs.Lines.{has_listing}
-use Rattle.cep_log.specs.declared.so_far.SoFar.{SoFar}
-use Rattle.cep_log.specs.declared.so_far.SoFar.TheVariants.{Nothing, Begun, Height, Whole, Within, Unlisted, Listed, Ended}
-use Rattle.cep_log.specs.Legal.{IsHave, AtomsRise, IsListing, IsStepOf, HaveListings, IsLogOf}
-use Rattle.cep_log.specs.Transcript.{IsByLine, IsStageLine, IsBehind, GoesOnListing, BeginsNext, Becomes, MovesOn, Leads, next_number, log_with, log_listed, step_begun, has_own_lines, with_own, with_step, said_by, HasLog, HasMisfit, IsFaultOf}
-use Rattle.std.proofs.lemmas.List.{append-nil}
-use Rattle.std.proofs.lemmas.Option.{slice_get_within}
-use Rattle.bstr.specs.Text.{lines_of, without_terminator}
-use Rattle.std.specs.Cmp.{IsTotalOrder}
-use Rattle.cep_log.specs.declared.fault.LogFault.{LogFault}
-use Rattle.cep_log.specs.declared.fault.LogFault.TheVariants.{Line}
-use Rattle.cep_log.specs.Growing.{CanGrow}
+use Rattle.cep_rule.specs.Typing.{AreValues}
+use Rattle.cep_rule.specs.declared.parts.Parts.{Parts}
+use Rattle.cep_rule.specs.declared.rule.Rule.{Rule}
+use Rattle.cep_rule.specs.Limits.{IsHeight}
 use Rattle.cep_log.proofs.Cuts.{lines_are, few_lines}
+use Rattle.cep_log.specs.Growing.{CanGrow}
+use Rattle.cep_log.specs.Legal.{AtomsRise, IsListing, IsStepOf, HaveListings, IsLogOf}
+use Rattle.cep_log.specs.declared.fault.LogFault.TheVariants.{Line}
+use Rattle.cep_log.specs.Transcript.{IsByLine, IsStageLine, IsBehind, GoesOnListing, BeginsNext, Becomes, MovesOn, Leads, next_number, log_with, log_listed, step_begun, has_own_lines, with_own, with_step, said_by, HasLog, HasMisfit, IsFaultOf}
+use Rattle.cep_log.specs.declared.fault.LogFault.{LogFault}
+use Rattle.cep_log.specs.declared.so_far.SoFar.TheVariants.{Nothing, Begun, Height, Whole, Within, Unlisted, Listed, Ended}
+use Rattle.cep_log.specs.declared.log.Log.{Log}
+use Rattle.cep_log.specs.declared.log.LogMid.{LogMid}
+use Rattle.cep_log.specs.declared.log.LogStep.{LogStep}
+use Rattle.cep_log.specs.declared.so_far.SoFar.{SoFar}
+use Rattle.cep_lines.specs.Lines.{has_listing}
+use Rattle.cep_lines.specs.declared.version.Version.{Version}
+use Rattle.bstr.specs.Text.{lines_of, without_terminator}
 
 -- The log that a transcript says is of the program.
 
@@ -59,11 +59,7 @@ rising_pushed [] entry rise all = (tt, tt)
 rising_pushed (first ∷ entries) entry rise all = (all_pushed (λ later. atom_cmp first.0 later.0 ≡ Less) entries entry rise.0 all.0, rising_pushed entries entry rise.1 all.1)
 
 listing_more : (through : Transitive) (program : Parts) (line : List ℕ) (old new : List (AtomTree × ℕ)) → IsListing program.signature old → GoesOnListing program line old new → IsListing program.signature new
-listing_more through program line old new is more =
-    subst (IsListing program.signature) (sym more.added) (record {
-      each = all_pushed (IsHave program.signature) old more.entry is.each (record { atom = more.said.atom.well_typed; fit = more.said.atom.fit; some = more.said.some; few = more.said.few });
-      rising = rising_pushed old more.entry is.rising (behind_all through old more.entry.0 is.rising more.behind);
-    })
+listing_more through program line old new is more = grind (arith, all_pushed, rising_pushed, behind_all)
 
 -- one step more has a listing where its number wants one
 listings_pushed : (version : Version) (number : ℕ) (steps : List LogStep) (step : LogStep) → HaveListings version number steps → is_some step.mid ≡ has_listing version (number + length steps) → HaveListings version number (steps ++ step ∷ [])
@@ -113,9 +109,6 @@ own_none next stage full none t = grind arith
 lacks_stage : (next : Option ℕ) (full : Bool) → full ≡ true → (full && (is_none next || false)) ≡ false → IsSome next
 lacks_stage next full f t = grind arith
 
-has_stage : (next : Option ℕ) (full : Bool) (s : ℕ) → full ≡ true → (full && (is_none next || is_some (Some s))) ≡ true
-has_stage next full s f = grind arith
-
 le_tests : (m n : ℕ) → m ≤ n → nat_le m n ≡ true
 le_tests m n h = le-leb m n h
 
@@ -123,28 +116,17 @@ module _ (program : Parts) where
   part_later : (m n : ℕ) (log : Log) → IsPartOf program m log → m ≤ n → IsPartOf program n log
   part_later m n log part h = record { height = part.height; stage = part.stage; start = part.start; steps = part.steps; listed = part.listed; few = let few = part.few in omega arith }
 
-  with_whole : (m n : ℕ) (log : Log) (step : LogStep) → IsPartOf program m log → suc (length log.steps) < n → IsStepOf program step → is_some step.mid ≡ has_listing log.version (next_number log) → IsPartOf program n (log_with log step)
-  with_whole m n log step part few of mid = record {
-    height = part.height;
-    stage = part.stage;
-    start = part.start;
-    steps = all_pushed (IsStepOf program) log.steps step part.steps of;
-    listed = listings_pushed log.version 1 log.steps step part.listed (subst (λ (n : ℕ). is_some step.mid ≡ has_listing log.version n) (omega arith) mid);
-    few = let h = length-append log.steps (step ∷ []) in omega arith;
-  }
-
   with_listing : (n : ℕ) (log : Log) (step : LogStep) (mid : LogMid) → IsPartOf program n log → suc (length log.steps) < n → IsUnlistedOf program log step → IsListing program.signature mid.state → IsPartOf program n (log_listed log step mid)
   with_listing n log step mid part few is listing =
       let of = is.of_program in
-      with_whole n n log (record step { mid = Some mid }) part few
-      (record { rule = of.rule; numbered = of.numbered; values = of.values; as_many = of.as_many; low = of.low; stage = of.stage; in_range = of.in_range; listing = listing }) (sym is.wants)
+      (grind (arith, all_pushed, listings_pushed, length-append))
 
   -- a step with all other own lines is whole, or it lacks its listing
   owned : (n : ℕ) (log : Log) (step : LogStep) → IsPartOf program n log → log.end ≡ None → suc (length log.steps) < suc n → IsStepOf program step → step.mid ≡ None → IsReadOf program (suc n) (with_own log step)
   owned n log step part unended few of no_mid = cases (has_listing log.version (next_number log)) refl where
     cases : (wants : Bool) → has_listing log.version (next_number log) ≡ wants → IsReadOf program (suc n) (if wants then Unlisted log step else Whole (log_with log step))
     cases true t = (part_later n (suc n) log part (omega arith), (unended, few, record { of_program = of; wants = t }))
-    cases false t = (with_whole n (suc n) log step part few of (ap is_some no_mid ∙ sym t), unended)
+    cases false t = ((grind (arith, all_pushed, listings_pushed, length-append)), unended)
 
   -- a step without a stage has all its own lines but for the listing, or it lacks some
   pending : (n : ℕ) (log : Log) (step : LogStep) (rule : Rule) → IsPartOf program n log → log.end ≡ None → suc (length log.steps) < suc n
@@ -175,7 +157,7 @@ module _ (program : Parts) where
       → AllByRecursion (λ proof. proof_height proof ≤ MOST_HEIGHT) step.proofs → length step.proofs ≡ length rule.backs → IsSome rule.next → stage < length program.stages → step.mid ≡ None
       → IsReadOf program (suc n) (with_step rule log (record step { stage = Some stage }))
   staged n log step rule stage part unended few numbered values low all leaves in_range no_mid =
-      let own : has_own_lines rule (record step { stage = Some stage }) ≡ true = has_stage rule.next (nat_le (length rule.backs) (length step.proofs)) stage (le_tests (length rule.backs) (length step.proofs) (omega arith)) in
+      let own : has_own_lines rule (record step { stage = Some stage }) ≡ true = grind arith in
       let whole : IsStepOf program (record step { stage = Some stage }) = record {
         rule = rule;
         numbered = numbered;
@@ -243,25 +225,15 @@ module _ (program : Parts) where
         (staged n log step goes.rule said.0 is.0 is.1.0 few goes.numbered values open_step.low (omega arith) leaves said.2.in_range open_step.no_mid)
   takes_kept through n line (Ended log end) new is goes = grind (arith, part_later, listing_more through program line end.state goes.state is.1 goes.listed, goes.ended, is.0, end.state, goes.state, is.1, goes.listed)
 
-  -- a line that is passed over leaves all as it is
-  read_later : (n : ℕ) (so_far : SoFar) → IsReadOf program n so_far → IsReadOf program (suc n) so_far
-  read_later n so_far is = grind (arith, part_later)
-
-  passes_kept : (through : Transitive) (n : ℕ) (line : List ℕ) (old new : SoFar) → IsReadOf program n old → MovesOn program n line old new → IsReadOf program (suc n) new
-  passes_kept through n line old new is given = grind (arith, read_later, takes_kept)
-
   pub leads_kept : (through : Transitive) (n : ℕ) (lines : List (List ℕ)) (old new : SoFar) → IsReadOf program n old → Leads program n lines old new → IsReadOf program (n + length lines) new
   leads_kept through n [] old new is leads = subst (λ (m : ℕ). IsReadOf program m new) (omega arith) (subst (IsReadOf program n) (sym leads) is)
   leads_kept through n (line ∷ lines) old new is leads =
-      let next : IsReadOf program (n + 1) leads.0 = subst (λ (m : ℕ). IsReadOf program m leads.0) (sym (add-one n)) (passes_kept through n line old leads.0 is leads.1) in
+      let next : IsReadOf program (n + 1) leads.0 = subst (λ (m : ℕ). IsReadOf program m leads.0) (sym (add-one n)) (grind (arith, takes_kept, part_later)) in
       subst (λ (m : ℕ). IsReadOf program m new) (omega arith) (leads_kept through (n + 1) lines leads.0 new next leads.2)
-
-  whole_is_of : (lines : ℕ) (log : Log) → lines ≤ MOST_LOG → IsPartOf program (1 + lines) log → log.end ≡ None → IsLogOf program (record log { lines = lines })
-  whole_is_of lines log short part unended = grind (arith, part.height, part.stage, part.start, part.steps, part.listed, program.signature, part.few)
 
   -- The log that is said is of the program.
   pub said_is_of : (lines : ℕ) (last : SoFar) (log : Log) → lines ≤ MOST_LOG → IsReadOf program (1 + lines) last → said_by last lines ≡ Some log → IsLogOf program log
-  said_is_of lines last log short is said = grind (arith, none_some, some_same, whole_is_of, with_listing)
+  said_is_of lines last log short is said = grind (arith, none_some, some_same, with_listing)
 
 -- The lines that were read so far, and what is said of all of them.
 

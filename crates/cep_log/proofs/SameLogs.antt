@@ -1,42 +1,41 @@
 -- A log has one text, and one that says the same is legal too.
-use Rattle.std.proofs.Common.{◌≡◌, ◌≢◌, ◌⊎◌, inl, inr, ℕ, zero, suc, ◌+◌, ◌<◌, ◌/◌, ◌%◌, List, [], ◌∷◌, ◌++◌, length, map, Bool, true, false, Option, Some, None, refl, sym, subst, arith, append_assoc, ◌≤◌, ◌∙◌, ap}
-use Rattle.std.specs.Prelude.{decimal, slice_get, IsTrue, IsSomeAnd, is_some, IsSome, IfSome, ◌↔◌}
-use Rattle.std.specs.List.{AllByRecursion, flat_map, AllZip}
-use Rattle.std.specs.Char.{is_ascii_lowercase, is_ascii_uppercase}
-use Rattle.std.specs.Fmt.{digit_glyph, digits_onto, digits}
+use Rattle.std.proofs.Common.{◌≡◌, ◌≢◌, ◌⊎◌, inl, inr, ℕ, zero, suc, ◌+◌, ◌<◌, ◌/◌, ◌%◌, List, [], ◌∷◌, ◌++◌, length, map, Bool, true, false, Option, Some, refl, sym, subst, arith, append_assoc, ◌≤◌, ◌∙◌, ap}
 use Rattle.std.proofs.lemmas.Bool.{false≢true}
 use Rattle.std.proofs.lemmas.List.Concat.{flat_map-cons}
-use Rattle.cep_base.specs.Spelling.{is_name_byte, IsUnbroken}
+use Rattle.std.specs.Fmt.{digit_glyph, digits_onto, digits}
+use Rattle.std.specs.List.{AllByRecursion, flat_map, AllZip}
+use Rattle.std.specs.Char.{is_ascii_lowercase, is_ascii_uppercase}
+use Rattle.std.specs.Prelude.{decimal, slice_get, IsTrue, IsSomeAnd, is_some, IfSome}
 use Rattle.cep_base.proofs.Lists.{none_some, some_same, holds_at, all_weaker}
-use Rattle.cep_term.specs.Tree.{Tree, Trees, AtomTree, variable, node, none, more, IsGround, AreGround}
-use Rattle.cep_rule.specs.declared.signature.Signature.{Signature}
-use Rattle.cep_rule.specs.declared.parts.Parts.{Parts}
-use Rattle.cep_rule.specs.declared.offer.Offer.{Offer}
-use Rattle.cep_rule.specs.Names.{IsWord, IsName, IsVariableName, IsBlankName}
-use Rattle.cep_rule.specs.Typing.{HasSort, HaveSorts, AreValues}
-use Rattle.cep_rule.specs.Derivations.{ProofTree, ProofTrees, by_clause, no_goal, goal_by, proof_height}
-use Rattle.cep_rule.specs.Shapes.{IsOfferOf, IsProofOf, AreProofsOf}
-use Rattle.cep_rule.specs.Program.{IsProgram}
-use Rattle.cep_text.specs.Texts.{con_name, pred_name, offer_name, rule_vars, clause_vars, enclosed, term_text, args_text, atom_text, given_text, all_given_text, offer_text, begin_text, proof_text, proofs_text, IsTypedGround}
-use Rattle.cep_rule.specs.declared.parts.Stage.{Stage}
-use Rattle.cep_lines.specs.Lines.{line, stage_name, has_listing}
-use Rattle.cep_log.specs.Transcript.{AreLines, IsOneLine}
+use Rattle.cep_base.specs.declared.limits.TheConstants.{MOST_LOG}
 use Rattle.cep_base.proofs.Options.{some_there as some_con}
-use Rattle.std.specs.FinMap as finite
-use Rattle.cep_base.specs.declared.limits.TheConstants.{MOST_HEIGHT, MOST_LOG}
-use Rattle.cep_rule.specs.Limits.{IsHeight}
-use Rattle.cep_rule.specs.Steps.{Spot, IsMachineStep, start_spot, stage_after}
-use Rattle.cep_lines.specs.declared.version.Version.{Version}
-use Rattle.cep_log.specs.declared.log.Log.{Log}
-use Rattle.cep_log.specs.declared.log.LogStep.{LogStep}
-use Rattle.cep_log.specs.declared.log.LogMid.{LogMid}
-use Rattle.cep_log.specs.declared.log.LogEnd.{LogEnd}
-use Rattle.cep_log.specs.Legal.{IsListing, IsStepOf, HaveListings, IsLegalStep, AreLegalSteps, IsLegalEnd, IsLegal}
-use Rattle.cep_log.specs.Written.{start_texts, mid_texts, step_texts, steps_texts, end_texts, text_of, ListTheSame, SayTheSame, EndTheSame, TellTheSame, DoTheSame, IsRenewal}
+use Rattle.cep_base.specs.Spelling.{is_name_byte, IsUnbroken}
 use Rattle.cep_term.specs.Multiset.{Multiset}
-use Rattle.cep_rule.specs.declared.rule.Rule.{Rule}
+use Rattle.cep_term.specs.Tree.{Tree, Trees, AtomTree, variable, node, none, more, IsGround, AreGround}
+use Rattle.cep_rule.specs.Derivations.{ProofTree, ProofTrees, by_clause, no_goal, goal_by}
+use Rattle.cep_rule.specs.Names.{IsWord, IsName, IsVariableName, IsBlankName}
+use Rattle.cep_rule.specs.Limits.{IsHeight}
+use Rattle.cep_rule.specs.Program.{IsProgram}
 use Rattle.cep_rule.specs.Step.{Step}
+use Rattle.cep_rule.specs.Shapes.{IsOfferOf, IsProofOf, AreProofsOf}
+use Rattle.cep_rule.specs.Typing.{HasSort, HaveSorts, AreValues}
+use Rattle.cep_rule.specs.declared.signature.Signature.{Signature}
+use Rattle.cep_rule.specs.Steps.{Spot, start_spot, stage_after}
+use Rattle.cep_rule.specs.declared.offer.Offer.{Offer}
+use Rattle.cep_rule.specs.declared.parts.Parts.{Parts}
+use Rattle.cep_rule.specs.declared.rule.Rule.{Rule}
+use Rattle.cep_text.specs.Texts.{con_name, pred_name, clause_vars, enclosed, term_text, args_text, atom_text, given_text, all_given_text, offer_text, begin_text, proof_text, proofs_text, IsTypedGround}
+use Rattle.cep_lines.specs.Lines.{line, stage_name, has_listing}
+use Rattle.cep_lines.specs.declared.version.Version.{Version}
 use Rattle.cep_lines.specs.declared.version.Version.TheVariants.{Two}
+use Rattle.cep_log.specs.Legal.{IsListing, IsStepOf, HaveListings, IsLegalStep, AreLegalSteps, IsLegalEnd, IsLegal}
+use Rattle.cep_log.specs.declared.log.LogStep.{LogStep}
+use Rattle.cep_log.specs.Transcript.{AreLines, IsOneLine}
+use Rattle.cep_log.specs.declared.log.Log.{Log}
+use Rattle.cep_log.specs.declared.log.LogEnd.{LogEnd}
+use Rattle.cep_log.specs.declared.log.LogMid.{LogMid}
+use Rattle.cep_log.specs.Written.{start_texts, mid_texts, step_texts, steps_texts, end_texts, text_of, ListTheSame, SayTheSame, EndTheSame, TellTheSame, DoTheSame, IsRenewal}
+use Rattle.std.specs.FinMap as finite
 
 -- The texts of values stand on one line, and lines that are written one after another are cut again.
 
@@ -55,21 +54,15 @@ lower_byte byte t = ((λ e. let h : is_ascii_lowercase 10 ≡ true = subst (λ b
 upper_byte : (byte : ℕ) → IsTrue (is_ascii_uppercase byte) → (byte ≢ 10) × (byte ≢ 13)
 upper_byte byte t = ((λ e. let h : is_ascii_uppercase 10 ≡ true = subst (λ b. is_ascii_uppercase b ≡ true) e t in absurd (false≢true h)), (λ e. let h : is_ascii_uppercase 13 ≡ true = subst (λ b. is_ascii_uppercase b ≡ true) e t in absurd (false≢true h)))
 
-glyph_one : (upper : Bool) (d : ℕ) → (digit_glyph upper d ≢ 10) × (digit_glyph upper d ≢ 13)
-glyph_one upper d = grind arith
-
 onto_one : (k base : ℕ) (upper : Bool) (n : ℕ) (acc : List ℕ) → IsOneLine acc → IsOneLine (digits_onto k base upper n acc)
 onto_one zero base upper n acc is = is
-onto_one (suc k) base upper n acc is = grind (arith, glyph_one, onto_one k base upper (n / base) (digit_glyph upper (n % base) ∷ acc) (glyph_one upper (n % base), is))
+onto_one (suc k) base upper n acc is = grind (arith, onto_one k base upper (n / base) (digit_glyph upper (n % base) ∷ acc) (grind arith, is))
 
 pub decimal_one : (n : ℕ) → IsOneLine (decimal n)
 unfolding digits
 decimal_one n = onto_one 64 10 false n [] tt
 
 -- Names
-
-pub name_one : (name : List ℕ) → IsName name → IsOneLine name
-name_one name is = grind (arith, lower_byte, all_weaker, name_byte)
 
 variable_one : (name : List ℕ) → IsVariableName name → IsOneLine name
 variable_one name is = cases name is.word where
@@ -80,7 +73,7 @@ variable_one name is = cases name is.word where
 
 named_one : {X : Type 0} (name_of : X → List ℕ) (xs : List X) (i : ℕ) (x : X) → AllByRecursion IsName (map name_of xs) → slice_get xs i ≡ Some x → IsOneLine (name_of x)
 named_one name_of (y ∷ xs) (suc i) x all e = named_one name_of xs i x all.1 e
-named_one name_of xs i x all e = grind (arith, none_some, some_same, name_one)
+named_one name_of xs i x all e = grind (arith, none_some, some_same, lower_byte, all_weaker, name_byte)
 
 -- Terms and atoms
 
@@ -124,11 +117,7 @@ module _ (program : Parts) (is : IsProgram program) where
       both (pred_name (slice_get program.signature.preds a.pred)) (args_text program.signature a.args) named (args_one program.signature cons_named a.args [] pred.0.args typed.is_ground pred.2)
 
   pub offer_one : (offer : Offer) → IsOfferOf program offer → IsOneLine (offer_text program offer)
-  offer_one offer of =
-      let rule = some_con (slice_get program.rules offer.rule) _ of in
-      subst (λ found. IsOneLine (offer_name found ++ all_given_text program.signature (rule_vars found) offer.values)) (sym rule.1)
-      (both rule.0.name (all_given_text program.signature rule.0.vars offer.values) (named_one (λ rule. rule.name) program.rules offer.rule rule.0 is.named.rules.each rule.1)
-      (givens_one program.signature cons_named rule.0.vars rule.0.kinds offer.values (holds_at (λ rule. AllByRecursion IsVariableName rule.vars) program.rules offer.rule rule.0 is.named.rule_vars rule.1) rule.2))
+  offer_one offer of = grind (arith, some_con, both, named_one, givens_one, cons_named, holds_at)
 
   begin_one : (number : ℕ) (values : List Tree) → IsSomeAnd (slice_get program.clauses number) (λ clause. AreValues program.signature.cons clause.kinds values) → IsOneLine (begin_text program number values)
   begin_one number values of =
@@ -148,10 +137,7 @@ module _ (program : Parts) (is : IsProgram program) where
     proofs_one (goal_by proof proofs) of = space_one (proof_text program proof ++ proofs_text program proofs) (both (proof_text program proof) (proofs_text program proofs) (proof_one proof of.0) (proofs_one proofs of.1))
 
   pub stage_one : (stage : ℕ) → stage < length program.stages → IsOneLine (stage_name (slice_get program.stages stage))
-  stage_one stage within = cases (slice_get program.stages stage) refl where
-    cases : (found : Option Stage) → slice_get program.stages stage ≡ found → IsOneLine (stage_name found)
-    cases None e = tt
-    cases (Some found) e = named_one (λ stage. stage.name) program.stages stage found is.named.stages.each e
+  stage_one stage within = grind (arith, named_one)
 
 -- Lines
 
@@ -173,56 +159,24 @@ written_lines (first ∷ lines) all = grind (arith, flat_map-cons, append_assoc,
 
 -- Listings
 
-listed_too : (P : List (AtomTree × ℕ) → Type 0) (one other : Option LogMid) → ListTheSame one other → IfSome one (λ mid. P mid.state) → IfSome other (λ mid. P mid.state)
-listed_too P one other same is = grind arith
-
-both_listed : (one other : Option LogMid) → ListTheSame one other → is_some other ≡ is_some one
-both_listed one other same = grind arith
-
 listings_too : (version : Version) (number : ℕ) (steps others : List LogStep) → AllZip SayTheSame steps others → HaveListings version number steps → HaveListings version number others
-listings_too version number (step ∷ steps) (other ∷ others) same have = (both_listed step.mid other.mid same.0.lists ∙ have.0, listings_too version (number + 1) steps others same.1 have.1)
+listings_too version number (step ∷ steps) (other ∷ others) same have = ((grind arith) ∙ have.0, listings_too version (number + 1) steps others same.1 have.1)
 listings_too version number steps others same have = grind arith
 
 -- Steps
 
 module _ (program : Parts) where
-  step_of_too : (one other : LogStep) → SayTheSame one other → IsStepOf program one → IsStepOf program other
-  step_of_too one other same of = record {
-    rule = of.rule;
-    numbered = subst (λ (offer : Offer). slice_get program.rules offer.rule ≡ Some of.rule) same.does.offer of.numbered;
-    values = subst (λ (offer : Offer). AreValues program.signature.cons of.rule.kinds offer.values) same.does.offer of.values;
-    as_many = subst (λ (proofs : List ProofTree). length proofs ≡ length of.rule.backs) same.does.proofs of.as_many;
-    low = subst (λ (proofs : List ProofTree). AllByRecursion (λ proof. proof_height proof ≤ MOST_HEIGHT) proofs) same.does.proofs of.low;
-    stage = subst (λ (stage : Option ℕ). IsSome stage ↔ IsSome of.rule.next) same.does.stage of.stage;
-    in_range = subst (λ (stage : Option ℕ). IfSome stage (λ stage. stage < length program.stages)) same.does.stage of.in_range;
-    listing = listed_too (IsListing program.signature) one.mid other.mid same.lists of.listing;
-  }
 
   steps_of_too : (steps others : List LogStep) → AllZip SayTheSame steps others → AllByRecursion (IsStepOf program) steps → AllByRecursion (IsStepOf program) others
-  steps_of_too (step ∷ steps) (other ∷ others) same of = (step_of_too step other same.0 of.0, steps_of_too steps others same.1 of.1)
+  steps_of_too (step ∷ steps) (other ∷ others) same of = (grind arith, steps_of_too steps others same.1 of.1)
   steps_of_too steps others same of = grind arith
-
-  legal_step_too : (height : ℕ) (old new : Spot) (one other : LogStep) → SayTheSame one other → IsLegalStep program height old new one → IsLegalStep program height old new other
-  legal_step_too height old new one other same legal = record {
-    rule = legal.rule;
-    machine = subst (λ (offer : Offer). IsMachineStep program height old new offer legal.rule other.proofs) same.does.offer
-        (subst (λ (proofs : List ProofTree). IsMachineStep program height old new one.offer legal.rule proofs) same.does.proofs legal.machine);
-    stage = sym same.does.stage ∙ legal.stage;
-    mid = listed_too (λ state. state ≡ finite.entries new.state) one.mid other.mid same.lists legal.mid;
-  }
 
   legal_steps_too : (height : ℕ) (steps others : List LogStep) (old last : Spot) → AllZip SayTheSame steps others → AreLegalSteps program height steps old last → AreLegalSteps program height others old last
   legal_steps_too height (step ∷ steps) (other ∷ others) old last same legal =
-      (legal.0, legal_step_too height old legal.0 step other same.0 legal.1, legal_steps_too height steps others legal.0 last same.1 legal.2)
+      (legal.0, (grind arith), legal_steps_too height steps others legal.0 last same.1 legal.2)
   legal_steps_too height steps others old last same legal = grind arith
 
   -- Ends
-
-  end_listed_too : (one other : Option LogEnd) → EndTheSame one other → IfSome one (λ end. IsListing program.signature end.state) → IfSome other (λ end. IsListing program.signature end.state)
-  end_listed_too one other same is = grind arith
-
-  end_legal_too : (height : ℕ) (last : Spot) (one other : Option LogEnd) → EndTheSame one other → IsSomeAnd one (IsLegalEnd program height last) → IsSomeAnd other (IsLegalEnd program height last)
-  end_legal_too height last one other same is = grind arith
 
   -- Logs
 
@@ -234,7 +188,7 @@ module _ (program : Parts) where
       start = subst (IsListing program.signature) same.start legal.of_program.start;
       steps = steps_of_too one.steps other.steps same.steps legal.of_program.steps;
       listed = subst (λ (version : Version). HaveListings version 1 other.steps) (sym version) (listings_too one.version 1 one.steps other.steps same.steps legal.of_program.listed);
-      ending = end_listed_too one.end other.end same.ends legal.of_program.ending;
+      ending = grind arith;
       lines = lines;
       few = few;
     };
@@ -242,7 +196,7 @@ module _ (program : Parts) where
     start = sym same.start ∙ legal.start;
     last = legal.last;
     steps = subst (λ (height : ℕ). AreLegalSteps program height other.steps (start_spot program) legal.last) same.height (legal_steps_too one.height one.steps other.steps (start_spot program) legal.last same.steps legal.steps);
-    ending = subst (λ (height : ℕ). IsSomeAnd other.end (IsLegalEnd program height legal.last)) same.height (end_legal_too one.height legal.last one.end other.end same.ends legal.ending);
+    ending = subst (λ (height : ℕ). IsSomeAnd other.end (IsLegalEnd program height legal.last)) same.height (grind arith);
   }
 
   -- Texts
@@ -270,19 +224,8 @@ module _ (program : Parts) where
 
 -- two that are as a third are as each other
 do_both : (steps one other : List LogStep) → AllZip DoTheSame steps one → AllZip DoTheSame steps other → AllZip DoTheSame one other
-do_both (step ∷ steps) (step' ∷ one) (step'' ∷ other) first second = (
-  (record { offer = sym first.0.offer ∙ second.0.offer; proofs = sym first.0.proofs ∙ second.0.proofs; stage = sym first.0.stage ∙ second.0.stage }),
-  (do_both steps one other first.1 second.1),
-)
+do_both (step ∷ steps) (step' ∷ one) (step'' ∷ other) first second = grind (arith, first.0.offer, second.0.offer, first.0.proofs, second.0.proofs, first.0.stage, second.0.stage, do_both steps one other first.1 second.1, first.1, second.1)
 do_both steps one other first second = grind arith
-
-ends_both : (end one other : Option LogEnd) → EndTheSame end one → EndTheSame end other → EndTheSame one other
-ends_both end one other first second = grind arith
-
--- both list the state, where one is due
-list_both : (due : Bool) (one other : Option LogMid) (entries : List (AtomTree × ℕ)) → is_some one ≡ due → is_some other ≡ due
-    → IfSome one (λ (mid : LogMid). mid.state ≡ entries) → IfSome other (λ (mid : LogMid). mid.state ≡ entries) → ListTheSame one other
-list_both due one other entries there there' is is' = grind arith
 
 module _ (one_state : (signature : Signature) (rule : Rule) (values : List Tree) (old one other : Multiset) → Step signature rule values old one → Step signature rule values old other → one ≡ other) (program : Parts) where
   say_both : (height : ℕ) (number : ℕ) (one other : List LogStep) (old last last' : Spot) → AllZip DoTheSame one other → AreLegalSteps program height one old last → AreLegalSteps program height other old last'
@@ -299,23 +242,10 @@ module _ (one_state : (signature : Signature) (rule : Rule) (values : List Tree)
       let stages : legal.0.stage ≡ legal'.0.stage = is.machine.steps.stage ∙ ap (λ (rule : Rule). stage_after rule old.stage) (sym rules) ∙ sym is'.machine.steps.stage in
       let spots : legal.0 ≡ legal'.0 = λ i. record { stage = stages i; state = states i } in
       let listed' = subst (λ (state : Multiset). IfSome step'.mid (λ (mid : LogMid). mid.state ≡ finite.entries state)) (sym states) is'.mid in (
-        (record { does = same.0; lists = list_both (has_listing Two number) step.mid step'.mid (finite.entries legal.0.state) have.0 have'.0 is.mid listed' }),
+        (record { does = same.0; lists = (grind arith) }),
         (say_both height (number + 1) one other legal.0 last last' same.1 legal.2 (subst (λ (spot : Spot). AreLegalSteps program height other spot last') (sym spots) legal'.2) have.1 have'.1),
       )
   say_both height number one other old last last' same legal legal' have have' = grind arith
 
   pub renewals_same : (old one other : Log) → IsRenewal program old one → IsRenewal program old other → text_of program one ≡ text_of program other
-  renewals_same old one other is is' =
-      let versions : one.version ≡ other.version = is.version ∙ sym is'.version in
-      let heights : one.height ≡ other.height = sym is.does.height ∙ is'.does.height in
-      let does = do_both old.steps one.steps other.steps is.does.steps is'.does.steps in
-      let legal' = subst (λ (height : ℕ). AreLegalSteps program height other.steps (start_spot program) is'.legal.last) (sym heights) is'.legal.steps in
-      same_text program one other versions (record {
-        height = heights;
-        stage = sym is.does.stage ∙ is'.does.stage;
-        start = sym is.does.start ∙ is'.does.start;
-        steps = say_both one.height 1 one.steps other.steps (start_spot program) is.legal.last is'.legal.last does is.legal.steps legal'
-            (subst (λ (version : Version). HaveListings version 1 one.steps) is.version is.legal.of_program.listed)
-            (subst (λ (version : Version). HaveListings version 1 other.steps) is'.version is'.legal.of_program.listed);
-        ends = ends_both old.end one.end other.end is.does.ends is'.does.ends;
-      })
+  renewals_same old one other is is' = grind (arith, do_both, same_text, say_both)

@@ -1,44 +1,44 @@
 -- A legal log can be written, and is read as a log that says the same.
 use Rattle.std.proofs.Common.{◌≡◌, ℕ, ◌<◌, ◌≤◌, List, [], ◌∷◌, length, Option, Some, sym, ap, ◌∙◌, subst, arith, inl, inr, ◌+◌, ◌&&◌, ◌||◌, cond, ◌++◌, map, Bool, true, false, None, refl, append_assoc, length-append}
-use Rattle.std.specs.Prelude.{slice_get, IfSome, IsSomeAnd, nat_le, is_none, is_some}
+use Rattle.std.proofs.lemmas.Bool.{le-leb, lt-leb}
+use Rattle.std.proofs.lemmas.List.{append-nil}
+use Rattle.std.proofs.lemmas.Slice.Zip.{AllZip-long}
 use Rattle.std.specs.List.{AllByRecursion, AllZip, flat_map}
-use Rattle.cep_base.specs.declared.limits.TheConstants.{MOST_HEIGHT, MOST_LOG}
+use Rattle.std.specs.Prelude.{slice_get, IfSome, IsSomeAnd, nat_le, is_none, is_some}
+use Rattle.cep_base.proofs.Elements.{both_all}
 use Rattle.cep_base.proofs.Lists.{some_same, holds_at, none_some}
-use Rattle.cep_term.specs.Tree.{Tree, AtomTree}
+use Rattle.cep_base.specs.declared.limits.TheConstants.{MOST_HEIGHT, MOST_LOG}
 use Rattle.cep_term.specs.Multiset.{Multiset, IsContained}
-use Rattle.cep_rule.specs.declared.signature.Signature.{Signature}
-use Rattle.cep_rule.specs.declared.rule.Rule.{Rule}
-use Rattle.cep_rule.specs.declared.parts.Parts.{Parts}
-use Rattle.cep_rule.specs.declared.offer.Offer.{Offer}
-use Rattle.cep_rule.specs.Typing.{AreValues}
-use Rattle.cep_rule.specs.State.{IsState}
-use Rattle.cep_rule.specs.Instances.{full_instances, left_of}
+use Rattle.cep_term.specs.Tree.{Tree, AtomTree}
 use Rattle.cep_rule.specs.Derivations.{ProofTree, Proves, IsDerivable}
-use Rattle.cep_rule.specs.Shapes.{IsOfferOf, IsProofOf, IsSmallTerm, HasSmallValues}
+use Rattle.cep_rule.specs.Steps.{Spot, MakesFit, AreProofs, start_spot}
+use Rattle.cep_rule.specs.declared.offer.Offer.{Offer}
+use Rattle.cep_rule.specs.Instances.{full_instances, left_of}
+use Rattle.cep_rule.specs.Typing.{AreValues}
+use Rattle.cep_rule.specs.declared.parts.Parts.{Parts}
+use Rattle.cep_rule.specs.declared.signature.Signature.{Signature}
+use Rattle.cep_rule.specs.Limits.{IsHeight}
 use Rattle.cep_rule.specs.Offers.{Applies}
 use Rattle.cep_rule.specs.Step.{Step}
-use Rattle.cep_rule.specs.Steps.{Spot, MakesFit, AreProofs, start_spot}
+use Rattle.cep_rule.specs.declared.rule.Rule.{Rule}
 use Rattle.cep_rule.specs.Program.{IsTypedRule, IsDividedRule, IsProgram}
-use Rattle.cep_log.specs.declared.log.LogStep.{LogStep}
-use Rattle.cep_log.specs.Legal.{IsListing, IsStepOf, IsLegalStep, AreLegalSteps, HaveListings, IsLegalEnd, IsLegal}
-use Rattle.cep_log.specs.Transcript.{IsReadable, IsByLine, BeginsNext, Becomes, MovesOn, Leads, stage_texts, has_own_lines, with_own, with_step, step_begun, log_listed, IsOneLine, IsPassedOver, HasLog, log_begun, mid_begun, end_begun, next_number, log_with}
-use Rattle.std.proofs.lemmas.List.{append-nil}
-use Rattle.std.proofs.lemmas.Bool.{le-leb, lt-leb}
-use Rattle.cep_lines.specs.Lines.{step_text, by_text, line, has_listing, version_text, height_text, stage_text, have_text, state_text, end_text}
-use Rattle.cep_text.specs.Texts.{offer_text, proof_text}
-use Rattle.cep_log.specs.declared.log.Log.{Log}
-use Rattle.cep_log.specs.declared.so_far.SoFar.{SoFar}
-use Rattle.cep_log.specs.declared.so_far.SoFar.TheVariants.{Nothing, Begun, Height, Whole, Within, Unlisted, Listed, Ended}
-use Rattle.std.proofs.lemmas.Slice.Zip.{AllZip-long}
-use Rattle.cep_base.proofs.Elements.{both_all}
-use Rattle.cep_rule.specs.Limits.{IsHeight}
-use Rattle.cep_lines.specs.declared.version.Version.{Version}
-use Rattle.cep_log.specs.declared.log.LogMid.{LogMid}
-use Rattle.cep_log.specs.declared.log.LogEnd.{LogEnd}
-use Rattle.cep_log.specs.Written.{start_texts, mid_texts, step_texts, end_texts, IsRemark, TellSteps, TellLog, ListTheSame, SayTheSame, EndTheSame, TellTheSame}
+use Rattle.cep_rule.specs.Shapes.{IsOfferOf, IsProofOf, IsSmallTerm, HasSmallValues}
+use Rattle.cep_rule.specs.State.{IsState}
+use Rattle.cep_log.proofs.LegalLogs.{start_read, mid_read, end_read, ways_join}
 use Rattle.cep_log.proofs.SameLogs.{written_lines, legal_too}
 use Rattle.cep_log.proofs.LineTexts.{version_one, height_one, stage_text_one, step_text_one, haves_one, bys_one, stages_one, mids_one, ends_one}
-use Rattle.cep_log.proofs.LegalLogs.{start_read, mid_read, end_read, ways_join}
+use Rattle.cep_log.specs.Legal.{IsListing, IsStepOf, IsLegalStep, AreLegalSteps, HaveListings, IsLegalEnd, IsLegal}
+use Rattle.cep_log.specs.declared.so_far.SoFar.{SoFar}
+use Rattle.cep_log.specs.Transcript.{IsReadable, IsByLine, BeginsNext, Becomes, MovesOn, Leads, stage_texts, has_own_lines, with_own, with_step, step_begun, log_listed, IsOneLine, IsPassedOver, HasLog, log_begun, mid_begun, end_begun, next_number, log_with}
+use Rattle.cep_log.specs.Written.{start_texts, mid_texts, step_texts, end_texts, IsRemark, TellSteps, TellLog, ListTheSame, SayTheSame, EndTheSame, TellTheSame}
+use Rattle.cep_log.specs.declared.log.Log.{Log}
+use Rattle.cep_log.specs.declared.log.LogEnd.{LogEnd}
+use Rattle.cep_log.specs.declared.log.LogMid.{LogMid}
+use Rattle.cep_log.specs.declared.log.LogStep.{LogStep}
+use Rattle.cep_log.specs.declared.so_far.SoFar.TheVariants.{Nothing, Begun, Height, Whole, Within, Unlisted, Listed, Ended}
+use Rattle.cep_lines.specs.Lines.{step_text, by_text, line, has_listing, version_text, height_text, stage_text, have_text, state_text, end_text}
+use Rattle.cep_lines.specs.declared.version.Version.{Version}
+use Rattle.cep_text.specs.Texts.{offer_text, proof_text}
 
 -- The steps of a legal log can be written and read back.
 
@@ -122,21 +122,6 @@ whole_log (Listed log step mid) = Some (log_listed log step mid)
 whole_log (Ended log end) = None
 
 -- What begins after the log may stand next.
-pub next_stands : (program : Parts) (number : ℕ) (line : List ℕ) (so_far : SoFar) (log : Log) (new : SoFar) → whole_log so_far ≡ Some log → BeginsNext program number line log new → Becomes program number line so_far new
-next_stands program number line so_far log new whole next = grind (arith, none_some, some_same)
-
--- whether a step has all its own lines
-own_all : (next stage : Option ℕ) (full : Bool) → full ≡ true → next ≡ None → (full && (is_none next || is_some stage)) ≡ true
-own_all next stage full f e = grind arith
-
-own_staged : (next : Option ℕ) (full : Bool) (s : ℕ) → full ≡ true → (full && (is_none next || is_some (Some s))) ≡ true
-own_staged next full s f = grind arith
-
-own_unstaged : (next stage : Option ℕ) (full : Bool) (s : ℕ) → next ≡ Some s → stage ≡ None → (full && (is_none next || is_some stage)) ≡ false
-own_unstaged next stage full s e f = grind arith
-
-own_lacks : (next stage : Option ℕ) (full : Bool) → full ≡ false → (full && (is_none next || is_some stage)) ≡ false
-own_lacks next stage full f = grind arith
 
 module _ (program : Parts) (log : Log) (rule : Rule) where
   joined_own : (step : LogStep) → has_own_lines rule step ≡ true → with_step rule log step ≡ with_own log step
@@ -149,8 +134,8 @@ module _ (program : Parts) (log : Log) (rule : Rule) where
   stage_read : (n : ℕ) (step : LogStep) (next : Option ℕ) → rule.next ≡ next → slice_get program.rules step.offer.rule ≡ Some rule → step.stage ≡ None → length step.proofs ≡ length rule.backs
       → ((stage : ℕ) → next ≡ Some stage → stage < length program.stages)
       → Leads program n (stage_texts program next) (with_step rule log step) (with_own log (record step { stage = next }))
-  stage_read n step None is numbered no_stage all within = grind (arith, le-leb, own_all, joined_own, rule.backs, step.proofs, rule.next, step.stage)
-  stage_read n step (Some stage) is numbered no_stage all within = grind (arith, le-leb, own_unstaged, own_staged, joined_within, joined_own, rule.backs, step.proofs, rule.next, step.stage)
+  stage_read n step None is numbered no_stage all within = grind (arith, le-leb, joined_own, rule.backs, step.proofs, rule.next, step.stage)
+  stage_read n step (Some stage) is numbered no_stage all within = grind (arith, le-leb, joined_within, joined_own, rule.backs, step.proofs, rule.next, step.stage)
 
   -- the derivations that are left, and the stage
   own_read : (n : ℕ) (step : LogStep) (left : List ProofTree) → slice_get program.rules step.offer.rule ≡ Some rule → step.stage ≡ None → length step.proofs + length left ≡ length rule.backs
@@ -160,7 +145,7 @@ module _ (program : Parts) (log : Log) (rule : Rule) where
   own_read n step [] numbered no_stage all readable within = grind (arith, append-nil, stage_read, rule.next, step.proofs)
   own_read n step (proof ∷ left) numbered no_stage all readable within =
       let few : length step.proofs < length rule.backs = omega arith in
-      let lacks : has_own_lines rule step ≡ false = own_lacks rule.next step.stage (nat_le (length rule.backs) (length step.proofs)) (lt-leb (length rule.backs) (length step.proofs) few) in
+      let lacks : has_own_lines rule step ≡ false = grind arith in
       let longer = length-append step.proofs (proof ∷ []) in
       let said : IsByLine program (by_text program proof) proof = record { text = proof_text program proof; proof_is = record { of_clauses = readable.0.of_clauses; small = readable.0.small; low = readable.0.low; text = refl }; written = refl } in (
         with_step rule log (record step { proofs = step.proofs ++ proof ∷ [] }),
@@ -179,8 +164,7 @@ module _ (program : Parts) (log : Log) (rule : Rule) where
     with_step rule log (step_begun n offer),
     inr (
       (λ e. omega arith),
-      next_stands program n (step_text program offer) so_far log (with_step rule log (step_begun n offer)) whole
-          (inl (record { offer = offer; rule = rule; said = record { text = offer_text program offer; offer_is = record { of_rule = of; small = small; text = refl }; written = refl }; numbered = numbered; step = refl })),
+      (grind (arith, none_some, some_same)),
     ),
     own_read (n + 1) (step_begun n offer) proofs numbered refl (omega arith) readable within,
   )
@@ -316,9 +300,6 @@ module _ (program : Parts) where
 
 -- The header and the end
 
-not_over : (version : Version) → ¬ (IsPassedOver (version_text version))
-not_over version over = grind arith
-
 -- the log with its start listing, as it is read
 abbrev log_started : Log → Log
 log_started log = record (log_begun log.version log.height 3 log.stage) { start = log.start }
@@ -338,19 +319,10 @@ module _ (program : Parts) where
       (Whole begun, inr ((λ over. omega (arith, over)), (log.stage, record { in_range = stage; written = refl }, refl)), start_read program 4 begun [] log.start refl start) in
       let second : Leads program 2 (height_text log.height ∷ (stage_text program log.stage ∷ map (have_text program.signature) log.start)) (Begun log.version) (Whole (log_started log)) =
       (Height log.version log.height, inr ((λ over. omega (arith, over)), (log.height, height, refl, refl)), third) in
-      (Begun log.version, inr (not_over log.version, (log.version, refl, refl)), second)
+      (Begun log.version, inr (grind arith, (log.version, refl, refl)), second)
 
   end_told : (number : ℕ) (old : SoFar) (log : Log) → whole_log old ≡ Some log → (end : LogEnd) → IsListing program.signature end.state → ReadsEnd program number (end_text end.word ∷ map (have_text program.signature) end.state) old log end
-  end_told number old log whole end listing = record {
-    read = record { line = number; word = end.word; state = end.state };
-    word = refl;
-    state = refl;
-    leads = (
-      Ended log (end_begun number end.word),
-      inr ((λ over. omega (arith, over)), next_stands program number (end_text end.word) old log (Ended log (end_begun number end.word)) whole (inr (record { word = end.word; said = refl; ended = refl }))),
-      end_read program (number + 1) log (end_begun number end.word) [] end.state listing,
-    );
-  }
+  end_told number old log whole end listing = grind (arith, end_read program (number + 1) log (end_begun number end.word) [] end.state listing)
 
 -- Logs
 
@@ -360,14 +332,7 @@ IsReadBack program log lines = (read : Log) × HasLog program (flat_map line lin
 
 module _ (laws : StepLaws) (program : Parts) (is : IsProgram program) where
   log_one : (log : Log) (lines : List (List ℕ)) → IsLegal program log → TellLog program lines log → AllByRecursion (IsWritable program) log.steps → AllByRecursion IsOneLine lines
-  log_one log lines legal tells are =
-      let of = legal.of_program in
-      let ends = end_texts program log.end in
-      let start : AllByRecursion IsOneLine (start_texts program log) = (version_one log.version, (height_one log.height, (stage_text_one program is log.stage of.stage, haves_one program is log.start of.start.each))) in
-      subst (AllByRecursion IsOneLine) (sym tells.whole)
-      (both_all IsOneLine (start_texts program log) (tells.steps ++ (tells.remarks ++ ends)) start
-      (both_all IsOneLine tells.steps (tells.remarks ++ ends) (steps_one program is 1 log.steps tells.steps are tells.tell)
-      (both_all IsOneLine tells.remarks ends (remarks_one tells.remarks tells.passed) (ends_one program is log.end of.ending))))
+  log_one log lines legal tells are = grind (arith, version_one log.version, height_one log.height, stage_text_one, haves_one, both_all, steps_one program is 1 log.steps tells.steps are tells.tell, remarks_one tells.remarks tells.passed, ends_one)
 
   read_ended : (log : Log) (lines : List (List ℕ)) (end : LogEnd) → log.end ≡ Some end → IsLegal program log → TellLog program lines log → length (flat_map line lines) ≤ MOST_LOG → IsReadBack program log lines
   read_ended log lines end ended legal tells short =

@@ -1,16 +1,16 @@
 -- Edits of a state, entry by entry and in either order.
-use Rattle.std.proofs.Common.{◌≡◌, ℕ, zero, suc, ◌+◌, ◌*◌, ◌<◌, ◌≤◌, take, Some, ap, subst, ◌∙◌, arith, ◌-◌, ◌^◌, List, length}
-use Rattle.std.specs.Prelude.{slice_get, sum_by}
-use Rattle.std.specs.FinMap.{len-entries}
-use Rattle.std.specs.FinMap as finite
-use Rattle.std.proofs.Math.Nat.{add-mul}
+use Rattle.std.proofs.Common.{◌≡◌, ℕ, ◌+◌, ◌*◌, ◌<◌, ◌≤◌, take, Some, ap, subst, ◌∙◌, arith, ◌-◌, ◌^◌, List, length}
 use Rattle.std.proofs.lemmas.List.{take_all}
+use Rattle.std.proofs.Math.Nat.{add-mul}
+use Rattle.std.specs.FinMap.{len-entries}
 use Rattle.std.proofs.lemmas.List.Sums.{sum_by_push, sum_by-take-le}
-use Rattle.cep_term.specs.Tree.{AtomTree, atom_nodes, IsGroundAtom}
-use Rattle.cep_term.specs.Multiset.{Multiset, nodes_in_all, IsBag, count_of, gathered, sum_of, difference_of, copies_in, IsContained}
-use Rattle.cep_base.proofs.Lists.{take_next, holds_at}
 use Rattle.std.specs.List.{AllByRecursion}
+use Rattle.std.specs.Prelude.{slice_get, sum_by}
+use Rattle.std.specs.FinMap as finite
 use Rattle.cep_term.specs.BagLaws.{BagLaws}
+use Rattle.cep_term.specs.Multiset.{Multiset, nodes_in_all, IsBag, gathered, sum_of, difference_of, copies_in, IsContained}
+use Rattle.cep_term.specs.Tree.{AtomTree, atom_nodes, IsGroundAtom}
+use Rattle.cep_base.proofs.Lists.{take_next, holds_at}
 use Rattle.cep_rule.specs.State.{Fits}
 
 -- The nodes of a state, entry by entry.
@@ -21,20 +21,14 @@ entry_nodes e = e.1 * atom_nodes e.0
 
 -- one entry more
 pub next_entry : (state : Multiset) (n : ℕ) (a : AtomTree) (copies : ℕ) → slice_get (finite.entries state) n ≡ Some (a, copies) → sum_by entry_nodes (take (n + 1) (finite.entries state)) ≡ sum_by entry_nodes (take n (finite.entries state)) + copies * atom_nodes a
-next_entry state n a copies is =
-    ap (sum_by entry_nodes) (take_next (finite.entries state) n (a, copies) is)
-    ∙ sum_by_push entry_nodes (take n (finite.entries state)) (a, copies)
+next_entry state n a copies is = ap (sum_by entry_nodes) (take_next (finite.entries state) n (a, copies) is) ∙ sum_by_push entry_nodes (take n (finite.entries state)) (a, copies)
 
 pub first_entries : (state : Multiset) (n : ℕ) → sum_by entry_nodes (take n (finite.entries state)) ≤ nodes_in_all state
 first_entries state n = sum_by-take-le entry_nodes (finite.entries state) n
 
-at_least_once : (n m : ℕ) → 0 < n → m ≤ n * m
-at_least_once zero m h = absurd (omega arith)
-at_least_once (suc n) m h = let split = add-mul 1 n m in let next : suc n * m ≡ (1 + n) * m = ap (λ k. k * m) (omega arith) in omega arith
-
 -- an atom of a state has at most as many nodes as the state
 pub atom_within : (state : Multiset) (n : ℕ) (a : AtomTree) (copies : ℕ) → IsBag state → slice_get (finite.entries state) n ≡ Some (a, copies) → atom_nodes a ≤ nodes_in_all state
-atom_within state n a copies bag is = grind (arith, next_entry state n a copies is, first_entries state (n + 1), at_least_once, holds_at)
+atom_within state n a copies bag is = grind (arith, next_entry state n a copies is, first_entries state (n + 1), holds_at)
 
 pub all_entries : (state : Multiset) (n : ℕ) → finite.len state ≤ n → sum_by entry_nodes (take n (finite.entries state)) ≡ nodes_in_all state
 all_entries state n most = ap (sum_by entry_nodes) (take_all n (finite.entries state) (subst (λ m. m ≤ n) (len-entries state) most))
@@ -43,25 +37,8 @@ all_entries state n most = ap (sum_by entry_nodes) (take_all n (finite.entries s
 
 module _ (laws : BagLaws) (state taken : Multiset) (gains : List AtomTree) (kept : IsBag state) (bag : IsBag taken) (ground : AllByRecursion IsGroundAtom gains) where
   pub taken_behind : IsContained taken state → difference_of (sum_of state (gathered gains)) taken ≡ sum_of (difference_of state taken) (gathered gains)
-  taken_behind contained =
-      let more = laws.gathered_kept gains ground in
-      laws.equal (difference_of (sum_of state (gathered gains)) taken) (sum_of (difference_of state taken) (gathered gains))
-      (laws.difference_kept (sum_of state (gathered gains)) taken (laws.sum_kept state (gathered gains) kept more) bag)
-      (laws.sum_kept (difference_of state taken) (gathered gains) (laws.difference_kept state taken kept bag) more)
-      (λ a.
-      let both = laws.difference (sum_of state (gathered gains)) taken a in
-      let sum = laws.sum state (gathered gains) a in
-      let other = laws.sum (difference_of state taken) (gathered gains) a in
-      let rest = laws.difference state taken a in
-      let few = contained a in
-      let found : count_of (difference_of (sum_of state (gathered gains)) taken) a ≡ (count_of state a + count_of (gathered gains) a) - count_of taken a = omega (arith, both, sum) in
-      omega (arith, found, other, rest, few))
+  taken_behind contained = grind arith
 
   -- a state that fits has room for what it gains where the state after it fits
   pub room_for_gains : Fits state → Fits (sum_of (difference_of state taken) (gathered gains)) → copies_in state + length gains < 2 ^ 32
-  room_for_gains here fits =
-      let now = here.copies in
-      let later = fits.copies in
-      let sum = laws.sum_copies (difference_of state taken) (gathered gains) in
-      let many = laws.gathered_copies gains in
-      omega (arith, now, later, sum, many)
+  room_for_gains here fits = grind arith

@@ -1,41 +1,41 @@
 -- The change of a rule that applies, its sizes, and what the state after it weighs.
-use Rattle.std.proofs.Common.{◌≡◌, ℕ, ◌+◌, ◌≤◌, Bool, true, false, cond, not, ◌&&◌, ◌||◌, List, [], ◌∷◌, ◌++◌, length, map, take, Some, append_assoc, refl, sym, ap, ◌∙◌, zero, suc, ◌*◌, max, None, unwrap_or, arith, ◌⊎◌, inl, inr, ⊎_elim, ◌^◌, ◌<◌, subst, Option}
-use Rattle.std.specs.Prelude.{slice_get, filter, slice_index_or, sum_by, IfSome}
+use Rattle.std.proofs.Common.{◌≡◌, ℕ, ◌+◌, ◌≤◌, Bool, true, false, cond, not, ◌&&◌, ◌||◌, List, [], ◌∷◌, ◌++◌, length, map, take, Some, append_assoc, refl, sym, ap, ◌∙◌, suc, ◌*◌, max, None, unwrap_or, arith, ◌⊎◌, inl, inr, ⊎_elim, ◌^◌, ◌<◌, subst, Option}
+use Rattle.std.proofs.Math.Nat.{add-mul}
 use Rattle.std.specs.List.{AllByRecursion}
+use Rattle.std.specs.Prelude.{slice_get, filter, slice_index_or, sum_by, IfSome}
 use Rattle.std.proofs.lemmas.List.{map-append, take_all, length-map, length-append}
 use Rattle.std.proofs.lemmas.List.Elements.{filter-append}
-use Rattle.cep_term.specs.Tree.{Tree, AtomTree, IsAtomInRange, Trees, variable, node, none, more, term_nodes, argument_nodes, atom_nodes, term_depth, argument_depth, atom_depth, IsFit, IsGroundAtom}
-use Rattle.cep_rule.specs.Patterns.{PremiseTree}
-use Rattle.cep_rule.specs.Instances.{full_instance, full_instances, given, kept_of, taken_by, added_by}
-use Rattle.cep_term.specs.Multiset.{without, Multiset, gathered, sum_of, difference_of, copies_in, nodes_in_all, IsBag, count_of, gained, IsContained}
-use Rattle.cep_rule.specs.declared.signature.Signature.{Signature}
-use Rattle.cep_rule.specs.Typing.{is_fact, IsTyped, AreValues}
-use Rattle.cep_base.proofs.Lists.{take_next, map_last, holds_at_mapped, holds_at, all_weaker, all_mapped}
-use Rattle.std.proofs.Math.Nat.{add-mul}
-use Rattle.cep_term.specs.Values.{term_instance, argument_instances}
-use Rattle.cep_step.specs.declared.size.Size.{Size}
-use Rattle.cep_step.specs.Sizes.{capped, one_more, size_of, size_at, size_by, size_among, IsBeyond}
 use Rattle.std.proofs.lemmas.List.Sums.{sum_by_push}
-use Rattle.cep_base.specs.declared.limits.TheConstants.{MOST_DEPTH, MOST_NODES, MOST_PREMISES, MOST_RIGHT}
-use Rattle.cep_step.specs.Passing.{IsTooLarge, IsFirstUnfit, IsExcess, IsTooFull}
-use Rattle.cep_step.specs.Weighing.{CanWeigh, IsReady}
 use Rattle.cep_term.specs.BagLaws.{BagLaws}
-use Rattle.cep_base.proofs.Elements.{both_all, all_of, all_at}
-use Rattle.cep_rule.specs.declared.rule.Rule.{Rule}
-use Rattle.cep_rule.specs.Limits.{IsSmallPattern, IsSmallRule}
+use Rattle.cep_term.specs.Values.{term_instance, argument_instances}
+use Rattle.cep_term.specs.Multiset.{without, Multiset, gathered, sum_of, difference_of, copies_in, nodes_in_all, IsBag, count_of, gained, IsContained}
+use Rattle.cep_term.specs.Tree.{Tree, AtomTree, IsAtomInRange, Trees, variable, node, none, more, term_nodes, argument_nodes, atom_nodes, term_depth, argument_depth, atom_depth, IsFit, IsGroundAtom}
 use Rattle.cep_rule.specs.Binding.{needed_of}
-use Rattle.cep_rule.specs.Steps.{Spot, MakesFit, stage_after}
-use Rattle.cep_rule.specs.Program.{IsTypedRule, IsDividedRule, IsProgram}
-use Rattle.cep_rule.specs.declared.parts.Parts.{Parts}
+use Rattle.cep_rule.specs.Patterns.{PremiseTree}
 use Rattle.cep_rule.specs.Shapes.{IsSmallTerm}
-use Rattle.cep_step.specs.declared.limit.Limit.TheVariants.{Atom, State}
-use Rattle.cep_step.specs.Spots.{IsSpotOf}
-use Rattle.cep_step.specs.Changes.{CanStep, IsWeighed}
-use Rattle.cep_step.specs.StepLaws.{StepLaws}
 use Rattle.cep_rule.specs.State.{Fits}
-use Rattle.cep_rule.specs.Step.{Step}
+use Rattle.cep_rule.specs.Instances.{full_instance, full_instances, given, kept_of, taken_by, added_by}
+use Rattle.cep_rule.specs.declared.signature.Signature.{Signature}
+use Rattle.cep_rule.specs.Limits.{IsSmallPattern, IsSmallRule}
+use Rattle.cep_rule.specs.Program.{IsTypedRule, IsDividedRule, IsProgram}
+use Rattle.cep_rule.specs.Steps.{Spot, MakesFit, stage_after}
 use Rattle.cep_rule.specs.Matching.{state_after}
+use Rattle.cep_rule.specs.Step.{Step}
+use Rattle.cep_rule.specs.Typing.{is_fact, IsTyped, AreValues}
+use Rattle.cep_rule.specs.declared.parts.Parts.{Parts}
+use Rattle.cep_rule.specs.declared.rule.Rule.{Rule}
+use Rattle.cep_base.proofs.Elements.{both_all, all_of, all_at}
+use Rattle.cep_base.proofs.Lists.{take_next, map_last, holds_at_mapped, holds_at, all_weaker, all_mapped, filter_few as few_pass}
+use Rattle.cep_base.specs.declared.limits.TheConstants.{MOST_DEPTH, MOST_NODES, MOST_PREMISES, MOST_RIGHT}
+use Rattle.cep_step.specs.Changes.{CanStep, IsWeighed}
+use Rattle.cep_step.specs.Spots.{IsSpotOf}
+use Rattle.cep_step.specs.StepLaws.{StepLaws}
+use Rattle.cep_step.specs.Weighing.{CanWeigh, IsReady}
+use Rattle.cep_step.specs.declared.size.Size.{Size}
+use Rattle.cep_step.specs.Passing.{IsTooLarge, IsFirstUnfit, IsExcess, IsTooFull}
 use Rattle.cep_step.specs.declared.weighing.Weighed.TheVariants.{Passes, Within}
+use Rattle.cep_step.specs.Sizes.{capped, one_more, size_of, size_at, size_by, size_among, IsBeyond}
+use Rattle.cep_step.specs.declared.limit.Limit.TheVariants.{Atom, State}
 
 -- Atoms of a rule that are gone through one by one.
 
@@ -62,10 +62,7 @@ next_atoms premises n premise is = ap premise_atoms (take_next premises n premis
 
 -- the premises that pass a test, with one premise more
 next_passing : (test : PremiseTree → Bool) (premises : List PremiseTree) (n : ℕ) (premise : PremiseTree) → slice_get premises n ≡ Some premise → premise_atoms (filter test (take (n + 1) premises)) ≡ premise_atoms (filter test (take n premises)) ++ premise_atoms (cond (test premise) (premise ∷ []) [])
-next_passing test premises n premise is =
-    ap (λ ps. premise_atoms (filter test ps)) (take_next premises n premise is)
-    ∙ ap premise_atoms (filter-append test (take n premises) (premise ∷ []))
-    ∙ map-append (λ (p : PremiseTree). p.atom) (filter test (take n premises)) (cond (test premise) (premise ∷ []) [])
+next_passing test premises n premise is = rw (take_next premises n premise is, filter-append test (take n premises) (premise ∷ []), map-append (λ (p : PremiseTree). p.atom) (filter test (take n premises)) (cond (test premise) (premise ∷ []) []))
 
 pub nothing_more : {A : Type 0} (xs : List A) → xs ++ [] ≡ xs
 nothing_more [] = refl
@@ -74,9 +71,7 @@ nothing_more (x ∷ xs) = ap (λ ys. x ∷ ys) (nothing_more xs)
 module _ (signature : Signature) (premises : List PremiseTree) (n : ℕ) (premise : PremiseTree) (is : slice_get premises n ≡ Some premise) where
   -- the linear ones, with one premise more
   pub linear_next : linear_among signature (take (n + 1) premises) ≡ linear_among signature (take n premises) ++ cond (not (is_fact signature premise.atom)) (premise.atom ∷ []) []
-  linear_next =
-      ap (without (is_fact signature)) (next_atoms premises n premise is)
-      ∙ filter-append (λ a. not (is_fact signature a)) (premise_atoms (take n premises)) (premise.atom ∷ [])
+  linear_next = grind (arith, next_atoms premises n premise is, filter-append, premise_atoms (take n premises), premise.atom)
 
   -- and the linear ones that are kept
   pub linear_kept_next : linear_kept_among signature (take (n + 1) premises) ≡ linear_kept_among signature (take n premises) ++ cond (premise.kept && not (is_fact signature premise.atom)) (premise.atom ∷ []) []
@@ -93,20 +88,13 @@ module _ (signature : Signature) (premises : List PremiseTree) (n : ℕ) (premis
 
 -- some atoms more, after what is there already
 pub more_behind : (values : List Tree) (initial front further atoms old new : List AtomTree) → atoms ≡ front ++ further → old ≡ initial ++ full_instances values front → new ≡ old ++ full_instances values further → new ≡ initial ++ full_instances values atoms
-more_behind values initial front further atoms old new longer so_far gained =
-    gained ∙ ap (λ xs. xs ++ full_instances values further) so_far
-    ∙ append_assoc initial (full_instances values front) (full_instances values further)
-    ∙ ap (λ xs. initial ++ xs) (sym (ap (full_instances values) longer ∙ map-append (full_instance values) front further))
+more_behind values initial front further atoms old new longer so_far given = grind (arith, append_assoc, map-append)
 
 -- the instance of a premise's atom can be built, if those of all are
 pub premise_within : (values : List Tree) (premises : List PremiseTree) (n : ℕ) (premise : PremiseTree) → AllByRecursion (IsAtomInRange (length values)) (premise_atoms premises) → slice_get premises n ≡ Some premise → IsAtomInRange (length values) premise.atom
 premise_within values premises n premise within is = holds_at_mapped (IsAtomInRange (length values)) (λ (p : PremiseTree). p.atom) premises n premise within is
 
 -- The sizes of instances are those that are told from the sizes of the values, and they are bounded.
-
--- a number that is counted, and then counted with more, is counted with more
-capped_one : (n : ℕ) → capped (capped n + 1) ≡ capped (1 + n)
-capped_one n = omega arith
 
 capped_sum : (n m : ℕ) → capped (capped n + capped m) ≡ capped (n + m)
 capped_sum n m = omega arith
@@ -119,14 +107,13 @@ abbrev pub size_of_all : Trees → Size
 size_of_all args = record { nodes = capped (argument_nodes args); depth = capped (argument_depth args) }
 
 under_at : (values : List Tree) (v w : ℕ) → size_at (map size_of values) v ≡ size_of (unwrap_or (slice_index_or (map Some values) v None) (variable w))
-under_at [] v w = refl
-under_at (t ∷ values) zero w = refl
 under_at (t ∷ values) (suc v) w = under_at values v w
+under_at values v w = refl
 
 mutual
   under : (values : List Tree) (t : Tree) → size_by (map size_of values) t ≡ size_of (term_instance (given values) t)
   under values (variable v) = under_at values v v
-  under values (node c args) = grind (arith, among values args, capped_one)
+  under values (node c args) = grind (arith, among values args)
 
   among : (values : List Tree) (args : Trees) → size_among (map size_of values) args ≡ size_of_all (argument_instances (given values) args)
   among values none = refl
@@ -166,9 +153,8 @@ abbrev pub IsBelow : ℕ → Tree → Type 0
 IsBelow most t = term_nodes t ≤ most
 
 bounded_at : (most : ℕ) (values : List Tree) (v w : ℕ) → 1 ≤ most → AllByRecursion (IsBelow most) values → term_nodes (unwrap_or (slice_index_or (map Some values) v None) (variable w)) ≤ most
-bounded_at most [] v w some all = some
-bounded_at most (t ∷ values) zero w some all = all.0
 bounded_at most (t ∷ values) (suc v) w some all = bounded_at most values v w some all.1
+bounded_at most values v w some all = grind arith
 
 mutual
   bounded : (most : ℕ) (values : List Tree) → 1 ≤ most → AllByRecursion (IsBelow most) values → (t : Tree) → term_nodes (term_instance (given values) t) ≤ term_nodes t * most
@@ -186,10 +172,10 @@ instance_bounded most values some all a = grind (arith, bounded_all, add-mul, a.
 module _ (values : List Tree) (sizes : List Size) (a : AtomTree) (same : sizes ≡ map size_of values) where
   -- the nodes and the levels of an instance
   pub instance_nodes : (one_more (size_among sizes a.args)).nodes ≡ capped (atom_nodes (full_instance values a))
-  instance_nodes = ap (λ (size : Size). capped (size.nodes + 1)) (measured_args values sizes a.args same) ∙ capped_one (argument_nodes (argument_instances (given values) a.args))
+  instance_nodes = ap (λ (size : Size). capped (size.nodes + 1)) (measured_args values sizes a.args same) ∙ (omega arith)
 
   pub instance_levels : (one_more (size_among sizes a.args)).depth ≡ capped (atom_depth (full_instance values a))
-  instance_levels = ap (λ (size : Size). capped (size.depth + 1)) (measured_args values sizes a.args same) ∙ capped_one (argument_depth (argument_instances (given values) a.args))
+  instance_levels = ap (λ (size : Size). capped (size.depth + 1)) (measured_args values sizes a.args same) ∙ (omega arith)
 
 -- one value more
 pub next_size : (values : List Tree) (n : ℕ) (t : Tree) (sizes : List Size) → sizes ≡ map size_of (take n values) → slice_get values n ≡ Some t → sizes ++ size_by [] t ∷ [] ≡ map size_of (take (n + 1) values)
@@ -266,10 +252,6 @@ all_passing P test values (premise ∷ premises) all = grind (arith, premise_ato
 pub in_range : StepLaws → (signature : Signature) (kinds : List ℕ) (values : List Tree) → AreValues signature.cons kinds values → (atoms : List AtomTree) → AllByRecursion (IsTyped signature kinds) atoms → AllByRecursion (IsAtomInRange (length values)) atoms
 in_range laws signature kinds values are atoms all = grind (arith, all_weaker, laws.types.as_many, signature.cons, laws.types.in_range)
 
-few_pass : {A : Type 0} (test : A → Bool) (xs : List A) → length (filter test xs) ≤ length xs
-few_pass test [] = omega arith
-few_pass {A} test (x ∷ xs) = let rest = few_pass test xs in elim (test x) as (λ t. length {A = A} (cond t (x ∷ filter test xs) (filter test xs)) ≤ length (x ∷ xs)) [ true ↦ omega arith | false ↦ omega arith ]
-
 -- instances by small values have so few nodes that they can be counted
 few_nodes : (values : List Tree) → AllByRecursion IsSmallTerm values → (atoms : List AtomTree) → AllByRecursion IsSmallPattern atoms → AllByRecursion (λ a. atom_nodes a < 2 ^ 64) (full_instances values atoms)
 few_nodes values small atoms patterns =
@@ -321,11 +303,6 @@ module _ (laws : StepLaws) (program : Parts) (rule : Rule) (values : List Tree) 
 not_fitting : (state : Multiset) (number : ℕ) → IsTooFull state number → ¬ Fits state
 not_fitting state number full = λ fits. let few = fits.copies in let few' = fits.nodes in ⊎_elim (λ copies. let over = copies.0 in absurd (omega arith)) (λ nodes. let over = nodes.1 in absurd (omega arith)) full
 
--- the stage after a step is one of the program's
-stage_in_range : (stages stage : ℕ) (next : Option ℕ) → stage < stages → IfSome next (λ other. other < stages) → unwrap_or next stage < stages
-stage_in_range stages stage None here next = here
-stage_in_range stages stage (Some other) here next = next
-
 module _ (laws : StepLaws) (program : Parts) (rule : Rule) (values : List Tree) (spot : Spot) (is : IsReady program rule values spot) where
   abbrev is_one_fact : AtomTree → Bool
   is_one_fact = is_fact program.signature
@@ -367,15 +344,10 @@ module _ (laws : StepLaws) (program : Parts) (rule : Rule) (values : List Tree) 
 
     -- no fact is taken, so what is left gains what the state does
     gains_by : gains ≡ gained is_one_fact (difference_of spot.state (gathered taken)) added
-    gains_by =
-        gains_are
-        ∙ laws.bags.gained_alike is_one_fact spot.state (difference_of spot.state (gathered taken)) added
-        (λ a fact. omega (arith, laws.bags.difference spot.state (gathered taken) a, no_facts a fact))
+    gains_by = grind (arith, is_one_fact, no_facts, laws.bags.gained_alike, spot.state, laws.bags.difference)
 
     after : new_state ≡ state_after program.signature spot.state (gathered taken) added
-    after =
-        ap (λ (atoms : List AtomTree). sum_of (difference_of spot.state (gathered taken)) (gathered atoms)) gains_by
-        ∙ sym (laws.gain program.signature spot.state (gathered taken) added is.here.is_state.bag is.here.is_state.once (laws.bags.gathered_kept taken (taken_ground taken taken_is)) (added_ground added added_is))
+    after = grind (arith, gains_by, taken_ground, added_ground, spot.state, laws.gain, program.signature, is.here.is_state.bag, is.here.is_state.once, laws.bags.gathered_kept)
 
     step : Step program.signature rule values spot.state new_state
     step = subst (Step program.signature rule values spot.state) (sym after)
@@ -389,7 +361,7 @@ module _ (laws : StepLaws) (program : Parts) (rule : Rule) (values : List Tree) 
     pub within : (bag : Multiset) (nodes stage : ℕ) → bag ≡ gathered taken → stage ≡ stage_after rule spot.stage → Fits new_state × (nodes ≡ nodes_in_all new_state)
         → IsWeighed program rule values spot (Within (record { taken = bag; added = added; gains = listed; nodes = nodes; stage = stage }))
     within bag nodes stage same next weight =
-        let in_range : stage < length program.stages = rw next (stage_in_range (length program.stages) spot.stage rule.next is.here.stage is.next) in
+        let in_range : stage < length program.stages = rw next (grind arith) in
         rw same (record {
           taken = ap gathered taken_is;
           added = added_is;

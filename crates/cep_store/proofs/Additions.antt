@@ -1,26 +1,25 @@
 -- Terms that are added with their keys, and what stays of those that were there.
 use Rattle.std.proofs.Common.{◌≡◌, ◌⊎◌, inl, inr, ⊎_elim, ℕ, zero, suc, Bool, true, false, true≢false, List, [], ◌∷◌, ◌++◌, length, map, Some, refl, sym, ap, subst, ◌∙◌, append_assoc, if◌then◌else◌, ◌<◌, arith, ◌+◌, ◌≤◌, ◌^◌, length-append}
-use Rattle.std.specs.Prelude.{slice_get, Result, Ok, Err, IfOk, OnErr}
-use Rattle.std.specs.List.{AllByRecursion, IsDistinct}
+use Rattle.std.proofs.lemmas.List.{get_or_append_left}
+use Rattle.std.specs.Option.{option_map_or}
 use Rattle.std.specs.Str.{bytes_eq}
-use Rattle.std.specs.Cmp.Lexicographic.{bytes_decides}
 use Rattle.std.proofs.lemmas.Map.Keys.{IsDistinct-head, IsDistinct-tail}
+use Rattle.std.proofs.lemmas.Option.{slice_get-get_or, slice_get_within, get_or_from_slice_get}
+use Rattle.std.specs.Cmp.Lexicographic.{bytes_decides}
+use Rattle.std.specs.List.{AllByRecursion, IsDistinct}
+use Rattle.std.specs.Prelude.{slice_get, Result, Ok, Err, IfOk, OnErr}
 use Rattle.cep_base.proofs.Lists.{none_some, some_same, get_mapped, map_last, all_weaker}
 use Rattle.cep_store.specs.Held.{AreApart, IsFrontOf, Held, trees_in, parts_in, parts_at, args_at, IsPartOf, IsPartAmong, AddsOnly, StaysHeld, args_by}
 use Rattle.cep_store.specs.Keys.{TakesPlace, term_by, atom_by, terms_from, terms_by, IsKey, AreTermKeys, AddsIds}
-use Rattle.std.specs.Option.{option_map_or}
-use Rattle.std.proofs.lemmas.Option.{slice_get-get_or, slice_get_within, get_or_from_slice_get}
 use Rattle.cep_term.specs.Tree.{Tree, Trees, variable, node, none, more}
-use Rattle.std.proofs.lemmas.List.{get_or_append_left}
 
 -- Lists by their places: fronts, what stands after, and keys that differ.
 
 module _ {A : Type 0} where
   -- what stands at a place of a front stands there in the whole
   pub get_front : (xs ys : List A) (i : ℕ) (x : A) → slice_get xs i ≡ Some x → slice_get (xs ++ ys) i ≡ Some x
-  get_front [] ys i x is = none_some x is
-  get_front (y ∷ xs) ys zero x is = is
   get_front (y ∷ xs) ys (suc i) x is = get_front xs ys i x is
+  get_front xs ys i x is = grind (arith, none_some, is)
 
   pub get_last : (xs : List A) (x : A) → slice_get (xs ++ x ∷ []) (length xs) ≡ Some x
   get_last [] x = refl
@@ -28,10 +27,8 @@ module _ {A : Type 0} where
 
   -- a place of a list with one more is one of before, or the last
   pub get_pushed : (xs : List A) (x y : A) (i : ℕ) → slice_get (xs ++ x ∷ []) i ≡ Some y → (slice_get xs i ≡ Some y) ⊎ ((i ≡ length xs) × (x ≡ y))
-  get_pushed [] x y zero is = inr (refl, some_same x y is)
-  get_pushed [] x y (suc i) is = none_some y is
-  get_pushed (z ∷ xs) x y zero is = inl is
   get_pushed (z ∷ xs) x y (suc i) is = ⊎_elim (λ before. inl before) (λ last. inr (ap suc last.0, last.1)) (get_pushed xs x y i is)
+  get_pushed xs x y i is = grind (arith, some_same, is, none_some)
 
   pub front_same : (xs : List A) → IsFrontOf xs xs
   front_same [] = ([], refl)
@@ -48,14 +45,11 @@ module _ {A : Type 0} where
 
 module _ {K : Type 0} (key_of : K → List ℕ) where
   differs : (k : K) (ks : List K) (j : ℕ) (x : List ℕ) → AllByRecursion (λ other. bytes_eq (key_of k) (key_of other) ≡ false) ks → slice_get (map key_of ks) j ≡ Some x → bytes_eq (key_of k) x ≡ false
-  differs k [] j x all is = none_some x is
-  differs k (other ∷ ks) zero x all is = subst (λ z. bytes_eq (key_of k) z ≡ false) (some_same (key_of other) x is) all.0
   differs k (other ∷ ks) (suc j) x all is = differs k ks j x all.1 is
+  differs k ks j x all is = grind (arith, none_some, is, some_same)
 
   stands_twice : (k : K) (ks : List K) (j : ℕ) (x : List ℕ) → AllByRecursion (λ other. bytes_eq (key_of k) (key_of other) ≡ false) ks → Some (key_of k) ≡ Some x → slice_get (map key_of ks) j ≡ Some x → ⊥
-  stands_twice k ks j x all one other =
-      let same : key_of k ≡ x = some_same (key_of k) x one in
-      true≢false (sym ((bytes_decides (key_of k) x).1 same) ∙ differs k ks j x all other)
+  stands_twice k ks j x all one other = let same : key_of k ≡ x = some_same (key_of k) x one in true≢false (sym ((bytes_decides (key_of k) x).1 same) ∙ differs k ks j x all other)
 
   -- keys that differ are apart
   pub apart_keys : (ks : List K) → IsDistinct (λ one other. bytes_eq (key_of one) (key_of other)) ks → AreApart (map key_of ks)
@@ -65,18 +59,13 @@ module _ {K : Type 0} (key_of : K → List ℕ) where
   apart_keys (k ∷ ks) d (suc i) zero x one other = absurd (stands_twice k ks i x (IsDistinct-head _ k ks d) other one)
   apart_keys (k ∷ ks) d (suc i) (suc j) x one other = ap suc (apart_keys ks (IsDistinct-tail _ k ks d) i j x one other)
 
-  placed : (old new : List K) (key : K) (now : List (List ℕ)) (there : Bool) → map key_of old ≡ now → new ≡ (if there then old else old ++ key ∷ []) → (map key_of new ≡ now) ⊎ (map key_of new ≡ now ++ key_of key ∷ [])
-  placed old new key now true before after = inl (ap (map key_of) after ∙ before)
-  placed old new key now false before after = inr (ap (map key_of) after ∙ map_last key_of old key ∙ ap (λ keys. keys ++ key_of key ∷ []) before)
-
   -- a key that was inserted takes its place
   pub takes_place : (old new : List K) (key : K) (id : ℕ) (now : List (List ℕ)) (there : Bool) → map key_of old ≡ now → new ≡ (if there then old else old ++ key ∷ [])
       → ((x : K) × (slice_get new id ≡ Some x) × (bytes_eq (key_of key) (key_of x) ≡ true)) → TakesPlace now (key_of key) id (map key_of new)
   takes_place old new key id now there before after stored =
-      let same : key_of key ≡ key_of stored.0 = (bytes_decides (key_of key) (key_of stored.0)).0 stored.2 in
       record {
-        stands = get_mapped key_of new id stored.0 stored.1 ∙ ap Some (sym same);
-        place = placed old new key now there before after;
+        stands = get_mapped key_of new id stored.0 stored.1 ∙ ap Some (sym ((bytes_decides (key_of key) (key_of stored.0)).0 stored.2));
+        place = grind (arith, map_last);
       }
 
 -- Which terms are added, and what stays of those that were there.
@@ -86,12 +75,6 @@ only_same MayBe terms = record { each = λ id t at. inl at }
 
 only_weaker : (MayBe May : Tree → Type 0) (earlier later : List Tree) → ((t : Tree) → MayBe t → May t) → AddsOnly MayBe earlier later → AddsOnly May earlier later
 only_weaker MayBe May earlier later wider only = record { each = λ id t at. ⊎_elim (λ before. inl before) (λ new. inr (wider t new)) (only.each id t at) }
-
-pub only_later : (MayBe : Tree → Type 0) (first second third : List Tree) → AddsOnly MayBe first second → AddsOnly MayBe second third → AddsOnly MayBe first third
-only_later MayBe first second third one other = grind arith
-
-pub only_pushed : (MayBe : Tree → Type 0) (terms : List Tree) (t : Tree) → MayBe t → AddsOnly MayBe terms (terms ++ t ∷ [])
-only_pushed MayBe terms t may = grind (arith, get_pushed)
 
 pub only_args : (c : ℕ) (args : Trees) (first second : List Tree) → AddsOnly (λ u. IsPartAmong u args) first second → AddsOnly (λ u. IsPartOf u (node c args)) first second
 only_args c args first second one = only_weaker (λ u. IsPartAmong u args) (λ u. IsPartOf u (node c args)) first second (λ u is. inr is) one
@@ -148,14 +131,8 @@ module _ (keys : List (List ℕ)) (key : List ℕ) (are : AreTermKeys keys) (is 
   count_more : length (terms_by (keys ++ key ∷ [])) ≡ length (keys ++ key ∷ [])
   count_more = cc (terms_push keys key, length-append (terms_by keys) (term_by (terms_by keys) key ∷ []), are.count, length-append keys (key ∷ []))
 
-  each_more : (id : ℕ) (other : List ℕ) → slice_get (keys ++ key ∷ []) id ≡ Some other → IsKey id other
-  each_more id other at = grind (arith, get_pushed, are.each)
-
   read_before : (id : ℕ) (other : List ℕ) (t : Tree) → slice_get keys id ≡ Some other → slice_get (terms_by keys ++ t ∷ []) id ≡ Some (term_by (terms_by keys ++ t ∷ []) other)
   read_before id other t before = cc (get_front (terms_by keys) (t ∷ []) id (term_by (terms_by keys) other) (are.read id other before), term_stays (terms_by keys) (t ∷ []) other (below_terms id other before))
-
-  read_last : slice_get (terms_by keys ++ term_by (terms_by keys) key ∷ []) (length keys) ≡ Some (term_by (terms_by keys ++ term_by (terms_by keys) key ∷ []) key)
-  read_last = grind (arith, get_last, term_stays, last_is, are.count)
 
   read_more : (id : ℕ) (other : List ℕ) → slice_get (keys ++ key ∷ []) id ≡ Some other → slice_get (terms_by (keys ++ key ∷ [])) id ≡ Some (term_by (terms_by (keys ++ key ∷ [])) other)
   read_more id other at =
@@ -167,12 +144,12 @@ module _ (keys : List (List ℕ)) (key : List ℕ) (are : AreTermKeys keys) (is 
       (λ last.
       let whole : List Tree = terms_by keys ++ t ∷ [] in
       subst (λ k. slice_get whole id ≡ Some (term_by whole k)) last.1
-      (subst (λ n. slice_get whole n ≡ Some (term_by whole key)) (sym last.0) read_last))
+      (subst (λ n. slice_get whole n ≡ Some (term_by whole key)) (sym last.0) (grind (arith, get_last, term_stays, last_is, are.count))))
       (get_pushed keys key other id at))
 
   -- one key more, which names terms before it
   pub term_keys_push : AreApart (keys ++ key ∷ []) → AreTermKeys (keys ++ key ∷ [])
-  term_keys_push apart = record { apart = apart; count = count_more; each = each_more; read = read_more }
+  term_keys_push apart = record { apart = apart; count = count_more; each = grind (arith, get_pushed, are.each); read = read_more }
 
 module _ (old new : List (List ℕ)) (key : List ℕ) (id : ℕ) (are : AreTermKeys old) (is : IsKey (length old) key) (takes : TakesPlace old key id new) (apart : AreApart new) where
   -- the keys that there are then
@@ -222,16 +199,11 @@ module _ (old new : List (List ℕ)) (c : ℕ) (begun key : List ℕ) (args : Tr
   keys_after (Ok id) takes refused = keys_added old new key id are is takes apart
   keys_after (Err e) takes refused = subst AreTermKeys (sym refused) are
 
-  front_next : {E : Type 0} (r : Result ℕ E) → IfOk r (λ id. TakesPlace old key id new) → OnErr r (new ≡ old) → IsFrontOf (terms_by old) (terms_by new)
-  front_next (Ok id) takes refused = terms_front old new key id are is takes apart
-  front_next (Err e) takes refused = subst (λ keys. IsFrontOf (terms_by old) (terms_by keys)) (sym refused) (front_same (terms_by old))
-
   pub front_after : {E : Type 0} (r : Result ℕ E) (before : List Tree) → IsFrontOf before (terms_by old) → IfOk r (λ id. TakesPlace old key id new) → OnErr r (new ≡ old) → IsFrontOf before (terms_by new)
-  front_after r before front takes refused = front_later before (terms_by old) (terms_by new) front (front_next r takes refused)
+  front_after r before front takes refused = front_later before (terms_by old) (terms_by new) front (grind (arith, terms_front, is, front_same (terms_by old)))
 
   pub term_after : {E : Type 0} (r : Result ℕ E) → IfOk r (λ id. TakesPlace old key id new) → IfOk r (λ id. slice_get (terms_by new) id ≡ Some (node c args))
-  term_after (Ok id) takes = term_added old new key id are is takes apart ∙ ap Some reads
-  term_after (Err e) takes = tt
+  term_after r takes = grind (arith, term_added, is, reads)
 
   only_placed : (id : ℕ) → TakesPlace old key id new → AddsOnly (λ u. IsPartOf u (node c args)) (terms_by old) (terms_by new)
   only_placed id takes =
@@ -239,11 +211,8 @@ module _ (old new : List (List ℕ)) (c : ℕ) (begun key : List ℕ) (args : Tr
       ⊎_elim
       (λ same. subst (λ keys. AddsOnly May (terms_by old) (terms_by keys)) (sym same) (only_same May (terms_by old)))
       (λ behind. subst (λ keys. AddsOnly May (terms_by old) (terms_by keys)) (sym behind)
-      (subst (λ terms. AddsOnly May (terms_by old) terms) (sym (terms_push old key)) (only_pushed May (terms_by old) (term_by (terms_by old) key) (inl reads))))
+      (subst (λ terms. AddsOnly May (terms_by old) terms) (sym (terms_push old key)) (grind (arith, get_pushed))))
       takes.place
 
   pub only_after : {E : Type 0} (r : Result ℕ E) (before : List Tree) → AddsOnly (λ u. IsPartAmong u args) before (terms_by old) → IfOk r (λ id. TakesPlace old key id new) → OnErr r (new ≡ old) → AddsOnly (λ u. IsPartOf u (node c args)) before (terms_by new)
-  only_after (Ok id) before only takes refused =
-      only_later (λ u. IsPartOf u (node c args)) before (terms_by old) (terms_by new) (only_args c args before (terms_by old) only) (only_placed id takes)
-  only_after (Err e) before only takes refused =
-      subst (λ keys. AddsOnly (λ u. IsPartOf u (node c args)) before (terms_by keys)) (sym refused) (only_args c args before (terms_by old) only)
+  only_after r before only takes refused = grind (arith, only_args, only_placed)

@@ -1,14 +1,14 @@
 -- What is read of a term by its key, and that different keys read different trees.
 use Rattle.std.proofs.Common.{◌≡◌, ℕ, zero, suc, ◌<◌, ◌≤◌, List, [], ◌∷◌, length, map, get_or, Contains, Option, Some, None, refl, sym, ap, subst, ◌∙◌, arith, ◌+◌, ◌*◌, ◌^◌, drop}
+use Rattle.std.proofs.lemmas.Option.{get_or_from_slice_get, slice_get-get_or, slice_get_within}
+use Rattle.std.specs.Option.{option_map_or}
 use Rattle.std.specs.Prelude.{slice_get}
 use Rattle.std.specs.List.{AllByRecursion}
-use Rattle.std.specs.Option.{option_map_or}
-use Rattle.std.proofs.lemmas.Option.{get_or_from_slice_get, slice_get-get_or, slice_get_within}
 use Rattle.cep_base.proofs.Lists.{none_some, some_same, all_from_places, get_mapped}
 use Rattle.cep_term.specs.Tree.{Tree, AtomTree, variable, IsGround, AreGround, IsGroundAtom, Trees, node, more, term_nodes, argument_nodes}
+use Rattle.cep_store.proofs.Additions.{key_below}
 use Rattle.cep_store.specs.Held.{AreApart, AreIds, trees_in, parts_in, args_by, Held, parts_at, args_at}
 use Rattle.cep_store.specs.Keys.{term_by, atom_by, terms_by, atoms_by, held_by, IsKey, AreTermKeys, AreKeys, IsTermKey, IsAtomKey}
-use Rattle.cep_store.proofs.Additions.{key_below}
 
 -- Different keys read different trees, and all trees that are read are ground and have their arguments among them.
 
@@ -122,9 +122,6 @@ module _ (terms atoms : List (List ℕ)) (are : AreKeys terms atoms) where
   ground_atom : (key : List ℕ) → IsKey (length (terms_by terms)) key → IsGroundAtom (atom_by (terms_by terms) key)
   ground_atom key is = grind (arith, args_ground, ground_below)
 
-  ground_atom_at : (i : ℕ) (a : AtomTree) → slice_get (atoms_by (terms_by terms) atoms) i ≡ Some a → IsGroundAtom a
-  ground_atom_at i a at = grind (arith, get_unmapped, ground_atom, atom_is)
-
   args_of_key : (key : List ℕ) → IsKey (length (terms_by terms)) key → AllByRecursion (λ arg. Contains (terms_by terms) arg) (trees_in (atom_by (terms_by terms) key).args)
   args_of_key key is = grind (arith, args_held)
 
@@ -137,7 +134,7 @@ module _ (terms atoms : List (List ℕ)) (are : AreKeys terms atoms) where
     terms_apart = terms_apart terms are.terms;
     atoms_apart = atoms_apart;
     ground_terms = all_from_places IsGround (terms_by terms) (ground_at terms are.terms);
-    ground_atoms = all_from_places IsGroundAtom (atoms_by (terms_by terms) atoms) ground_atom_at;
+    ground_atoms = all_from_places IsGroundAtom (atoms_by (terms_by terms) atoms) (grind (arith, get_unmapped, ground_atom, atom_is));
     parts = λ id. parts_of_held terms are.terms id (slice_get (terms_by terms) id) refl;
     args = λ id. args_of_held id (slice_get (atoms_by (terms_by terms) atoms) id) refl;
   }
@@ -241,16 +238,12 @@ module _ (terms : List Tree) (key : List ℕ) (ids : List ℕ) (listed : List Tr
   get_by : (i : ℕ) → AllByRecursion (λ id. id < length terms) (drop 1 key) → i < length listed → slice_get terms (get_or ids i 0) ≡ slice_get listed i
   get_by i all low = get_tree terms ids i (subst (AllByRecursion (λ id. id < length terms)) (sym is) all) (omega (arith, count_by)) ∙ ap (λ l. slice_get l i) (sym listed_by)
 
--- a term or an atom that has arguments is there
-listed_within : {A : Type 0} (xs : List A) (id i : ℕ) (f : A → List Tree) (r : Option A) → slice_get xs id ≡ r → i < length (option_map_or f r []) → id < length xs
-listed_within xs id i f r at low = grind (arith, slice_get_within)
-
 module _ (held : Held) (id : ℕ) where
   pub term_there : (i : ℕ) → i < length (parts_at held id) → id < length held.terms
-  term_there i low = listed_within held.terms id i parts_in (slice_get held.terms id) refl low
+  term_there i low = grind (arith, slice_get_within)
 
   pub atom_there : (i : ℕ) → i < length (args_at held id) → id < length held.atoms
-  atom_there i low = listed_within held.atoms id i (λ a. trees_in a.args) (slice_get held.atoms id) refl low
+  atom_there i low = grind (arith, slice_get_within)
 
   module _ (key : List ℕ) (is : IsTermKey held id key) where
     parts_are : parts_at held id ≡ trees_in (args_by held.terms (drop 1 key))

@@ -1,13 +1,13 @@
 -- What a store holds before and after an atom is interned.
 use Rattle.std.proofs.Common.{◌≡◌, ◌⊎◌, ⊎_elim, ℕ, suc, ◌<◌, ◌≤◌, ◌^◌, List, [], ◌∷◌, ◌++◌, length, Contains, Some, refl, sym, subst, length-append, arith}
-use Rattle.std.specs.Prelude.{Result, Ok, Err, IfOk, OnErr, slice_get}
 use Rattle.std.proofs.lemmas.Option.{slice_get_within}
+use Rattle.std.specs.Prelude.{Result, Ok, Err, IfOk, OnErr, slice_get}
 use Rattle.cep_base.proofs.Lists.{none_some, get_mapped, map_last}
 use Rattle.cep_term.specs.Tree.{Tree, Trees, AtomTree}
-use Rattle.cep_store.specs.Held.{AreApart, IsFrontOf, StaysHeld, HasId}
-use Rattle.cep_store.specs.Keys.{atom_by, terms_by, atoms_by, held_by, IsKey, AreTermKeys, AreKeys, TakesPlace, AddsIds}
 use Rattle.cep_store.proofs.Additions.{get_front, get_last, get_pushed, front_same, front_push, key_below, atom_stays, term_keys_none, is_key, reads_atom}
 use Rattle.cep_store.proofs.Readers.{contains_at, place_of_contained, atoms_apart}
+use Rattle.cep_store.specs.Held.{AreApart, IsFrontOf, StaysHeld, HasId}
+use Rattle.cep_store.specs.Keys.{atom_by, terms_by, atoms_by, held_by, IsKey, AreTermKeys, AreKeys, TakesPlace, AddsIds}
 
 atoms_stay : (terms behind : List Tree) (keys : List (List ℕ)) → ((id : ℕ) (key : List ℕ) → slice_get keys id ≡ Some key → IsKey (length terms) key) → atoms_by (terms ++ behind) keys ≡ atoms_by terms keys
 atoms_stay terms behind [] each = refl

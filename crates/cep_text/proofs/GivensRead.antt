@@ -2,16 +2,16 @@
 use Rattle.std.proofs.Common.{◌≡◌, ℕ, ◌+◌, ◌≤◌, List, [], ◌∷◌, ◌++◌, length, codes, Some, refl, sym, ap, subst, ◌∙◌, arith, append_assoc, append-nil}
 use Rattle.std.specs.List.{AllByRecursion}
 use Rattle.cep_term.specs.Tree.{Tree, term_depth}
-use Rattle.cep_rule.specs.declared.signature.Signature.{Signature}
 use Rattle.cep_rule.specs.Names.{AreNames}
-use Rattle.cep_rule.specs.Typing.{AreValues}
 use Rattle.cep_rule.specs.Shapes.{IsSmallTerm}
-use Rattle.cep_text.specs.Texts.{term_text, all_given_text}
-use Rattle.cep_text.specs.Reading.{Reader, literal_at, con_names, value_at, small_at, given_at, givens_at}
-use Rattle.cep_text.proofs.ValuesFound.{literal_again, literal_found, value_again}
-use Rattle.cep_text.proofs.TableLemmas.{by_bind, some_is}
+use Rattle.cep_rule.specs.Typing.{AreValues}
+use Rattle.cep_rule.specs.declared.signature.Signature.{Signature}
 use Rattle.cep_text.proofs.Heads.{IsApart}
 use Rattle.cep_text.proofs.TermTexts.{SmallFound, small_found, small_again}
+use Rattle.cep_text.proofs.ValuesFound.{literal_again, literal_found, value_again}
+use Rattle.cep_text.proofs.TableLemmas.{by_bind, some_is}
+use Rattle.cep_text.specs.Reading.{Reader, literal_at, con_names, value_at, small_at, given_at, givens_at}
+use Rattle.cep_text.specs.Texts.{term_text, all_given_text}
 
 -- The values are small and of the types, and what the variables are given stands before the rest.
 pub record GivensFound (signature : Signature) (names : List (List ℕ)) (kinds : List ℕ) (before : List Tree) (bytes : List ℕ) (all : List Tree) (rest : List ℕ) : Type 0 where

@@ -1,17 +1,17 @@
 -- Names at the front of a text.
 use Rattle.std.proofs.Common.{◌≡◌, ℕ, Bool, true, cond, eqb, ◌&&◌, ◌||◌, nat_le, List, [], ◌∷◌, ◌++◌, length, slice_get, codes, Option, Some, None, refl, sym, ap, subst, ◌∙◌, arith, take_at, drop_at, take-append-drop}
-use Rattle.std.specs.Prelude.{IsTrue, ◌==◌}
-use Rattle.std.specs.List.{AllByRecursion}
-use Rattle.std.specs.Char.{is_ascii_lowercase}
-use Rattle.std.specs.Option.{option_map}
 use Rattle.std.proofs.lemmas.Bool.{eqb-true, eq-eqb}
 use Rattle.std.proofs.lemmas.Option.{slice_get-map}
+use Rattle.std.specs.Char.{is_ascii_lowercase}
+use Rattle.std.specs.List.{AllByRecursion}
+use Rattle.std.specs.Option.{option_map}
+use Rattle.std.specs.Prelude.{IsTrue, ◌==◌}
 use Rattle.cep_base.specs.Spelling.{is_name_byte}
+use Rattle.cep_rule.specs.Names.{IsWord, IsName, AreNames}
 use Rattle.cep_rule.specs.declared.signature.Con.{Con}
 use Rattle.cep_rule.specs.declared.signature.PredDecl.{PredDecl}
-use Rattle.cep_rule.specs.Names.{IsWord, IsName, AreNames}
-use Rattle.cep_text.specs.Reading.{literal_at, name_len, front_name, behind_name, number_among, con_names, pred_names, of_sort, con_at, pred_head, pred_at}
 use Rattle.cep_text.proofs.TableLemmas.{by_bind, guard_some, some_is, all_at, number_is, number_found, item_name}
+use Rattle.cep_text.specs.Reading.{literal_at, name_len, front_name, behind_name, number_among, con_names, pred_names, of_sort, con_at, pred_head, pred_at}
 
 -- No byte of a name stands at the front.
 abbrev pub IsApart : List ℕ → Type 0
@@ -31,20 +31,11 @@ front_is name rest all apart = rw (name_whole name rest all apart) (take_at name
 pub behind_is : (name rest : List ℕ) → AreNameBytes name → IsApart rest → behind_name (name ++ rest) ≡ rest
 behind_is name rest all apart = rw (name_whole name rest all apart) (drop_at name rest (length name) refl)
 
-among_five : (a b c d e : Bool) → b ≡ true → (a || b || c || d || e) ≡ true
-among_five a b c d e t = grind arith
-
 lower_goes_on : (byte : ℕ) → is_ascii_lowercase byte ≡ true → is_name_byte byte ≡ true
-lower_goes_on byte t = among_five (nat_le 48 byte && nat_le byte 57 || nat_le 65 byte && nat_le byte 90) (is_ascii_lowercase byte) (byte == 95) (byte == 47) (byte == 39) t
-
-no_letter : (byte : ℕ) (same : Bool) (bytes : List ℕ) → eqb 40 byte ≡ same → is_ascii_lowercase byte ≡ true → cond same (Some bytes) None ≡ None
-no_letter byte same bytes e small = grind (arith, eqb-true)
+lower_goes_on byte t = grind arith
 
 pub name_bytes : (name : List ℕ) → IsName name → AreNameBytes name
-name_bytes name is = of_word name is.word where
-  of_word : (name : List ℕ) → IsWord is_ascii_lowercase name → AreNameBytes name
-  of_word [] word = absurd word
-  of_word (byte ∷ name) word = (lower_goes_on byte word.0, word.1)
+name_bytes name is = grind (arith, lower_goes_on)
 
 -- a name does not begin with a parenthesis
 pub no_parenthesis : (name rest : List ℕ) → IsName name → literal_at (codes "(") (name ++ rest) ≡ None
@@ -52,7 +43,7 @@ unfolding literal_at
 no_parenthesis name rest is = of_word name is.word where
   of_word : (name : List ℕ) → IsWord is_ascii_lowercase name → literal_at (codes "(") (name ++ rest) ≡ None
   of_word [] word = absurd word
-  of_word (byte ∷ name) word = no_letter byte (eqb 40 byte) (name ++ rest) refl word.0
+  of_word (byte ∷ name) word = grind (arith, eqb-true)
 
 -- a constructor that is read
 pub record ConFound (cons : List Con) (sort : ℕ) (bytes : List ℕ) (number : ℕ) (kinds rest : List ℕ) : Type 0 where

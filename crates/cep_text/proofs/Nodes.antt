@@ -3,32 +3,22 @@ use Rattle.std.proofs.Common.{◌≡◌, ℕ, List, [], ◌∷◌, ◌++◌, app
 use Rattle.std.specs.Prelude.{Result, OnErr, Some, slice_get}
 use Rattle.cep_base.proofs.Outcomes.{on_err}
 use Rattle.cep_term.specs.Tree.{Tree, Trees, node, more}
-use Rattle.cep_rule.specs.declared.signature.Con.{Con}
+use Rattle.cep_rule.specs.Derivations.{ProofTree, by_clause}
+use Rattle.cep_rule.specs.declared.parts.Parts.{Parts}
 use Rattle.cep_rule.specs.declared.signature.Signature.{Signature}
+use Rattle.cep_rule.specs.declared.signature.Con.{Con}
 use Rattle.cep_text.specs.Texts.{term_text, args_text, given_text, all_given_text, begin_text, begin_of, proof_text, proofs_text}
 use Rattle.cep_text.specs.Writing.{IsBegun}
-use Rattle.cep_rule.specs.declared.parts.Parts.{Parts}
-use Rattle.cep_rule.specs.Derivations.{ProofTree, by_clause}
 
 -- Fronts of a text that is added piece by piece.
 
 -- a prefix of the first piece was added
 pub begun_first : (old one next new : List ℕ) → IsBegun old one new → IsBegun old (one ++ next) new
-begun_first old one next new begun = record {
-  front = begun.front;
-  rest = begun.rest ++ next;
-  cut = ap (λ text. text ++ next) begun.cut ∙ append_assoc begun.front begun.rest next;
-  added = begun.added;
-}
+begun_first old one next new begun = grind (arith, append_assoc)
 
 -- the first piece was added, and a prefix of what follows
 pub begun_then : (old one next mid new : List ℕ) → mid ≡ old ++ one → IsBegun mid next new → IsBegun old (one ++ next) new
-begun_then old one next mid new done begun = record {
-  front = one ++ begun.front;
-  rest = begun.rest;
-  cut = ap (λ text. one ++ text) begun.cut ∙ sym (append_assoc one begun.front begun.rest);
-  added = begun.added ∙ ap (λ text. text ++ begun.front) done ∙ append_assoc old one begun.front;
-}
+begun_then old one next mid new done begun = grind (arith, append_assoc)
 
 -- of a term with arguments the parenthesis and the name were added, and a prefix of the arguments
 pub enclosed_begun : {T E : Type 0} (r : Result T E) (signature : Signature) (tree : Tree) (c : ℕ) (args seen : Trees) (con : Con) (name old opened named new : List ℕ) (t : Tree) (rest : Trees)
@@ -77,8 +67,7 @@ given_begun r signature i names values name value old mid new e f before begun =
 -- Fronts of the text of a derivation.
 
 head_begun : (program : Parts) (tree : ProofTree) (old new : List ℕ) → IsBegun old (begin_of program tree) new → IsBegun old (proof_text program tree) new
-head_begun program (by_clause number values subs) old new begun =
-    begun_first old (begin_text program number values) (proofs_text program subs ++ 93 ∷ []) new begun
+head_begun program (by_clause number values subs) old new begun = grind (arith, begun_first old (begin_text program number values) (proofs_text program subs ++ 93 ∷ []) new begun)
 
 -- a prefix of what stands before the goals
 pub node_begun : {T E : Type 0} (r : Result T E) (program : Parts) (tree : ProofTree) (old new : List ℕ)
@@ -89,6 +78,4 @@ node_begun r program tree old new begun = on_err r _ (head_begun program tree ol
 pub node_goes_on : {T E : Type 0} (r : Result T E) (program : Parts) (tree : ProofTree) (goals old mid new : List ℕ)
     → mid ≡ old ++ begin_of program tree → IsBegun mid goals new → proof_text program tree ≡ begin_of program tree ++ (goals ++ 93 ∷ [])
     → OnErr r (IsBegun old (proof_text program tree) new)
-node_goes_on r program tree goals old mid new before begun whole =
-    on_err r _ (subst (λ text. IsBegun old text new) (sym whole)
-    (begun_then old (begin_of program tree) (goals ++ 93 ∷ []) mid new before (begun_first mid goals (93 ∷ []) new begun)))
+node_goes_on r program tree goals old mid new before begun whole = grind (arith, on_err, begun_then, begun_first)

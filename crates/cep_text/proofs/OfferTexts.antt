@@ -1,31 +1,31 @@
 -- The texts of offers and derivations, of which no two are one.
 use Rattle.std.proofs.Common.{◌≡◌, ℕ, List, [], ◌++◌, length, take-append-drop, slice_get, Option, Some, None, IsSomeAnd, refl, sym, ap, subst, ◌∙◌, append-nil, arith, ◌+◌, ◌≤◌, codes, append_assoc}
+use Rattle.std.proofs.lemmas.Option.{slice_get-map}
 use Rattle.std.specs.List.{AllByRecursion}
 use Rattle.std.specs.Option.{option_map}
-use Rattle.std.proofs.lemmas.Option.{slice_get-map}
 use Rattle.cep_term.specs.Tree.{Tree, Trees, AtomTree, node, none, more, IsGround, AreGround, term_depth, argument_depth}
-use Rattle.cep_rule.specs.declared.rule.Rule.{Rule}
-use Rattle.cep_rule.specs.declared.offer.Offer.{Offer}
-use Rattle.cep_rule.specs.declared.parts.Parts.{Parts}
-use Rattle.cep_rule.specs.Names.{IsName, AreNames}
-use Rattle.cep_rule.specs.Typing.{AreValues, HasSort, IsValue}
-use Rattle.cep_rule.specs.Program.{IsProgram, IsTypedRule}
-use Rattle.cep_rule.specs.Shapes.{IsOfferOf, IsSmallTerm, AreAsMany, IsProofOf, AreProofsOf, HasSmallValues, HaveSmallValues}
-use Rattle.cep_text.specs.Texts.{offer_name, rule_vars, all_given_text, offer_text, proof_text, con_name, pred_name, term_text, args_text, atom_text, IsGroundTerm, IsTypedGround}
-use Rattle.cep_text.specs.Reads.{IsOfferText, IsProofText}
-use Rattle.cep_text.specs.Reading.{Reader, name_len, front_name, behind_name, number_among, rule_names, small_at, whole, givens_at, rule_at, offer_read, value_at, proof_at, proof_read, ◌>>=◌, literal_at, con_names, pred_names, pred_at, arguments_at}
-use Rattle.cep_text.proofs.TableLemmas.{by_bind, some_is, none_is, all_at, number_is, number_found, item_name}
-use Rattle.cep_text.proofs.Heads.{IsApart, name_bytes, front_is, behind_is, no_parenthesis, pred_again}
-use Rattle.cep_text.proofs.TermTexts.{whole_is, PredOf, pred_of}
-use Rattle.cep_text.proofs.GivensRead.{givens_found, AreRead, givens_apart, givens_again, small_read, all_read, levels_of}
-use Rattle.cep_rule.specs.Patterns.{ClauseTree}
 use Rattle.cep_rule.specs.Derivations.{ProofTree, ProofTrees, by_clause, no_goal, goal_by, proof_height}
-use Rattle.cep_base.specs.declared.limits.TheConstants.{MOST_HEIGHT}
-use Rattle.cep_text.proofs.ProofsFound.{proof_found}
-use Rattle.cep_text.proofs.ProofsAgain.{NodeRead, IsRead, AllAreRead, proof_again}
-use Rattle.cep_rule.specs.declared.signature.Con.{Con}
 use Rattle.cep_rule.specs.declared.signature.Signature.{Signature}
+use Rattle.cep_rule.specs.Names.{IsName, AreNames}
+use Rattle.cep_rule.specs.declared.parts.Parts.{Parts}
+use Rattle.cep_rule.specs.declared.rule.Rule.{Rule}
+use Rattle.cep_rule.specs.declared.signature.Con.{Con}
+use Rattle.cep_rule.specs.Patterns.{ClauseTree}
+use Rattle.cep_rule.specs.Shapes.{IsOfferOf, IsSmallTerm, AreAsMany, IsProofOf, AreProofsOf, HasSmallValues, HaveSmallValues}
+use Rattle.cep_rule.specs.Program.{IsProgram, IsTypedRule}
+use Rattle.cep_rule.specs.Typing.{AreValues, HasSort, IsValue}
+use Rattle.cep_rule.specs.declared.offer.Offer.{Offer}
+use Rattle.cep_text.proofs.GivensRead.{givens_found, AreRead, givens_apart, givens_again, small_read, all_read, levels_of}
+use Rattle.cep_text.proofs.ProofsFound.{proof_found}
+use Rattle.cep_text.proofs.Heads.{IsApart, name_bytes, front_is, behind_is, no_parenthesis, pred_again}
+use Rattle.cep_text.specs.Reads.{IsOfferText, IsProofText}
+use Rattle.cep_text.proofs.ProofsAgain.{NodeRead, IsRead, AllAreRead, proof_again}
+use Rattle.cep_text.proofs.TableLemmas.{by_bind, some_is, none_is, all_at, number_is, number_found, item_name}
+use Rattle.cep_text.proofs.TermTexts.{whole_is, PredOf, pred_of}
 use Rattle.cep_text.proofs.ValuesFound.{con_of, value_again, arguments_again, args_apart, literal_again}
+use Rattle.cep_text.specs.Reading.{Reader, name_len, front_name, behind_name, number_among, rule_names, small_at, whole, givens_at, rule_at, offer_read, value_at, proof_at, proof_read, ◌>>=◌, literal_at, con_names, pred_names, pred_at, arguments_at}
+use Rattle.cep_text.specs.Texts.{offer_name, rule_vars, all_given_text, offer_text, proof_text, con_name, term_text, args_text, atom_text, IsGroundTerm, IsTypedGround}
+use Rattle.cep_base.specs.declared.limits.TheConstants.{MOST_HEIGHT}
 
 -- Whole texts of offers.
 
@@ -66,11 +66,8 @@ pub record RuleOf (program : Parts) (offer : Offer) : Type 0 where
   pub numbered : slice_get program.rules offer.rule ≡ Some rule
   pub typed : AreValues program.signature.cons rule.kinds offer.values
 
-find_of : (program : Parts) (offer : Offer) (found : Option Rule) → slice_get program.rules offer.rule ≡ found → IsSomeAnd found (λ rule. AreValues program.signature.cons rule.kinds offer.values) → RuleOf program offer
-find_of program offer found e typed = grind arith
-
 pub rule_of : (program : Parts) (offer : Offer) → IsOfferOf program offer → RuleOf program offer
-rule_of program offer is = find_of program offer (slice_get program.rules offer.rule) refl is
+rule_of program offer is = grind arith
 
 as_many : (program : Parts) (number : ℕ) (rule : Rule) → IsProgram program → slice_get program.rules number ≡ Some rule → length rule.kinds ≡ length rule.vars
 as_many program number rule keeps there = (all_at (IsTypedRule program.signature) program.rules number rule keeps.typed_rules there).kinds
@@ -115,10 +112,7 @@ pub offer_again : (program : Parts) (value : ℕ → Reader Tree) → IsProgram 
 offer_again program value keeps offer of read = cc (text_by program offer.rule of.rule offer.values of.numbered, read_by program value keeps offer of read)
 
 pub offer_none : (program : Parts) (bytes : List ℕ) → IsProgram program → offer_read program (small_at program.signature.cons) bytes ≡ None → (offer : Offer) → IsOfferText program bytes offer → ⊥
-offer_none program bytes keeps e offer is =
-    let of = rule_of program offer is.of_rule in
-    let read = small_read program.signature keeps.named.cons of.rule.kinds offer.values of.typed is.small in
-    none_is offer (offer_read program (small_at program.signature.cons) bytes) e (ap (offer_read program (small_at program.signature.cons)) is.text ∙ offer_again program (small_at program.signature.cons) keeps offer of read)
+offer_none program bytes keeps e offer is = grind (arith, rule_of, small_read, none_is, offer_again)
 
 -- Whole texts of derivations.
 
@@ -243,21 +237,14 @@ one_sort signature (node c args) (node d others) sort sort' names a b typed type
 one_sort signature one other sort sort' names a b typed typed' e = grind arith
 
 pub one_ground_term : (program : Parts) (one other : Tree) → IsProgram program → IsGroundTerm program.signature one → IsGroundTerm program.signature other → term_text program.signature one ≡ term_text program.signature other → one ≡ other
-one_ground_term program one other keeps a b e =
-    let same = one_sort program.signature one other a.sort b.sort keeps.named.cons a.value.ground b.value.ground a.value.typed b.value.typed e in
-    one_term program a.sort one other keeps a.value (subst (λ sort. IsValue program.signature.cons sort other) same b.value) e
+one_ground_term program one other keeps a b e = grind (arith, one_sort, one_term)
 
 -- the atom at the front, whatever its size
 abbrev front_atom : Signature → ℕ → List ℕ → Option AtomTree
 front_atom signature depth bytes = pred_at signature.preds bytes >>= λ pred. (arguments_at (value_at signature.cons depth) pred.0.1 pred.1 >>= λ args. Some (record { pred = pred.0.0; args = args.0 }))
 
 atom_again : (signature : Signature) (depth : ℕ) → AreNames (con_names signature.cons) → AreNames (pred_names signature.preds) → (a : AtomTree) (of : PredOf signature a) → AreGround a.args → argument_depth a.args ≤ depth → front_atom signature depth (atom_text signature a) ≡ Some a
-atom_again signature depth cons preds a of known low =
-    let args = args_text signature a.args in
-    let again : arguments_at (value_at signature.cons depth) of.pred.args args ≡ Some (a.args, []) =
-    ap (arguments_at (value_at signature.cons depth) of.pred.args) (sym (append-nil args)) ∙ arguments_again signature cons a.args depth of.pred.args [] known of.typed low refl in
-    ap (λ found. front_atom signature depth (pred_name found ++ args)) of.numbered
-    ∙ rw (pred_again signature.preds a.pred of.pred args preds of.numbered (subst IsApart (append-nil args) (args_apart signature a.args [] refl)), again) refl
+atom_again signature depth cons preds a of known low = grind (arith, append-nil, arguments_again signature cons a.args depth of.pred.args [] known of.typed low refl, front_atom, pred_again, args_apart signature a.args [] refl)
 
 pub one_atom : (program : Parts) (one other : AtomTree) → IsProgram program → IsTypedGround program.signature one → IsTypedGround program.signature other → atom_text program.signature one ≡ atom_text program.signature other → one ≡ other
 one_atom program one other keeps a b e =

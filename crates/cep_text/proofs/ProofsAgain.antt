@@ -1,35 +1,32 @@
 -- The text of a derivation is read as that derivation.
 use Rattle.std.proofs.Common.{◌≡◌, ℕ, suc, ◌+◌, ◌-◌, ◌<◌, ◌≤◌, ◌^◌, Bool, true, ◌&&◌, ◌||◌, nat_le, List, [], ◌∷◌, ◌++◌, length, slice_get, codes, Some, refl, ap, ◌∙◌, arith, append_assoc}
-use Rattle.std.specs.Prelude.{decimal, ◌==◌}
-use Rattle.std.specs.Char.{is_ascii_digit}
-use Rattle.std.specs.Str.{all_ascii_digits}
 use Rattle.std.proofs.lemmas.Fmt.{digits_decimal}
-use Rattle.std.proofs.lemmas.Str.Parse.{numerals_by_value, tells_all_ascii_digits}
 use Rattle.std.proofs.lemmas.Option.{slice_get_within}
+use Rattle.std.proofs.lemmas.Str.Parse.{numerals_by_value, tells_all_ascii_digits}
+use Rattle.std.specs.Char.{is_ascii_digit}
+use Rattle.std.specs.Prelude.{decimal, ◌==◌}
+use Rattle.std.specs.Str.{all_ascii_digits}
 use Rattle.cep_term.specs.Tree.{Tree, AtomTree}
-use Rattle.cep_base.specs.declared.limits.TheConstants.{MOST_CLAUSES}
-use Rattle.cep_rule.specs.declared.parts.Parts.{Parts}
 use Rattle.cep_base.specs.Spelling.{is_name_byte}
-use Rattle.cep_rule.specs.Patterns.{ClauseTree}
+use Rattle.cep_base.specs.declared.limits.TheConstants.{MOST_CLAUSES}
 use Rattle.cep_rule.specs.Derivations.{ProofTree, ProofTrees, by_clause, no_goal, goal_by, proof_height, greatest_height}
+use Rattle.cep_rule.specs.Patterns.{ClauseTree}
 use Rattle.cep_rule.specs.Program.{IsProgram}
 use Rattle.cep_rule.specs.Shapes.{AreAsMany}
-use Rattle.cep_text.specs.Texts.{clause_vars, all_given_text, begin_text, proof_text, proofs_text}
-use Rattle.cep_text.specs.Reading.{Reader, clause_at, begin_at, proofs_at, node_at, proof_at}
-use Rattle.cep_text.proofs.ValuesFound.{literal_again, proof_more}
+use Rattle.cep_rule.specs.declared.parts.Parts.{Parts}
+use Rattle.cep_text.proofs.GivensRead.{AreRead, givens_apart, givens_again}
 use Rattle.cep_text.proofs.Heads.{IsApart, AreNameBytes, front_is, behind_is}
 use Rattle.cep_text.proofs.ProofsFound.{numbered_again, clause_as_many}
-use Rattle.cep_text.proofs.GivensRead.{AreRead, givens_apart, givens_again}
+use Rattle.cep_text.specs.Reading.{Reader, clause_at, begin_at, proofs_at, node_at, proof_at}
+use Rattle.cep_text.proofs.ValuesFound.{literal_again, proof_more}
+use Rattle.cep_text.specs.Texts.{clause_vars, all_given_text, begin_text, proof_text, proofs_text}
 
 -- digits are bytes of names
 and_both : (a b : Bool) → (a && b) ≡ true → (a ≡ true) × (b ≡ true)
 and_both a b e = grind arith
 
-first_among : (a b c d e f : Bool) → a ≡ true → (a || b || c || d || e || f) ≡ true
-first_among a b c d e f t = grind arith
-
 digit_goes_on : (byte : ℕ) → is_ascii_digit byte ≡ true → is_name_byte byte ≡ true
-digit_goes_on byte t = first_among (is_ascii_digit byte) (nat_le 65 byte && nat_le byte 90) (nat_le 97 byte && nat_le byte 122) (byte == 95) (byte == 47) (byte == 39) t
+digit_goes_on byte t = grind arith
 
 digits_go_on : (digits : List ℕ) → all_ascii_digits digits ≡ true → AreNameBytes digits
 digits_go_on [] t = tt

@@ -1,22 +1,22 @@
 -- What is read as a derivation is the text of one.
 use Rattle.std.proofs.Common.{◌≡◌, ◌≢◌, ℕ, zero, suc, ◌<◌, ◌^◌, Bool, true, false, cond, List, Some, None, refl, sym, ◌∙◌, bytes_eq, arith, ◌+◌, ◌≤◌, [], ◌++◌, length, take-append-drop, slice_get, codes, Option, IsSomeAnd, ap, subst, append_assoc}
-use Rattle.std.specs.Prelude.{decimal}
 use Rattle.std.proofs.lemmas.Fmt.{decimal_injective}
 use Rattle.std.proofs.lemmas.Slice.Eq.{bytes_eq-Decides}
-use Rattle.cep_text.specs.Reading.{numbered_by, Reader, literal_at, name_len, front_name, behind_name, small_at, givens_at, clause_at, begin_at, proofs_at, node_at, proof_at}
-use Rattle.cep_text.proofs.TableLemmas.{bytes_apart, some_is, by_bind, all_at}
-use Rattle.cep_base.proofs.Bytes.{bytes_apart as apart}
 use Rattle.std.specs.List.{AllByRecursion}
-use Rattle.cep_term.specs.Tree.{Tree, AtomTree}
-use Rattle.cep_rule.specs.declared.parts.Parts.{Parts}
-use Rattle.cep_rule.specs.Patterns.{ClauseTree}
-use Rattle.cep_rule.specs.Typing.{AreValues}
-use Rattle.cep_rule.specs.Derivations.{ProofTree, ProofTrees, by_clause, no_goal, goal_by, proof_height, greatest_height}
-use Rattle.cep_rule.specs.Program.{IsProgram, IsTypedClause}
-use Rattle.cep_rule.specs.Shapes.{AreAsMany, IsProofOf, AreProofsOf, IsSmallTerm, HasSmallValues, HaveSmallValues}
-use Rattle.cep_text.specs.Texts.{all_given_text, begin_text, proof_text, proofs_text}
-use Rattle.cep_text.proofs.ValuesFound.{literal_found}
+use Rattle.std.specs.Prelude.{decimal}
 use Rattle.cep_text.proofs.GivensRead.{givens_found}
+use Rattle.cep_text.proofs.ValuesFound.{literal_found}
+use Rattle.cep_text.proofs.TableLemmas.{bytes_apart, some_is, by_bind, all_at}
+use Rattle.cep_text.specs.Texts.{all_given_text, begin_text, proof_text, proofs_text}
+use Rattle.cep_text.specs.Reading.{numbered_by, Reader, literal_at, name_len, front_name, behind_name, small_at, givens_at, clause_at, begin_at, proofs_at, node_at, proof_at}
+use Rattle.cep_base.proofs.Bytes.{bytes_apart as apart}
+use Rattle.cep_term.specs.Tree.{Tree, AtomTree}
+use Rattle.cep_rule.specs.Derivations.{ProofTree, ProofTrees, by_clause, no_goal, goal_by, proof_height, greatest_height}
+use Rattle.cep_rule.specs.Patterns.{ClauseTree}
+use Rattle.cep_rule.specs.Program.{IsProgram, IsTypedClause}
+use Rattle.cep_rule.specs.Typing.{AreValues}
+use Rattle.cep_rule.specs.Shapes.{AreAsMany, IsProofOf, AreProofsOf, IsSmallTerm, HasSmallValues, HaveSmallValues}
+use Rattle.cep_rule.specs.declared.parts.Parts.{Parts}
 
 -- The numbers of clauses, counted from 1.
 

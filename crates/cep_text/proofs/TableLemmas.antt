@@ -1,17 +1,17 @@
 -- Names and their numbers in a table.
 use Rattle.std.proofs.Common.{◌≡◌, ◌≢◌, ℕ, zero, suc, ◌<◌, Bool, true, false, cond, List, [], ◌∷◌, length, take, map, slice_get, Option, Some, None, refl, ap, subst, ◌∙◌, bytes_eq, arith, sym, ◌+◌, ◌++◌, position}
-use Rattle.std.specs.Option.{option_map}
-use Rattle.std.proofs.lemmas.List.{length-map}
+use Rattle.std.proofs.lemmas.Iterator.Adapters.{position_from-zero}
 use Rattle.std.proofs.lemmas.Option.{slice_get-map, slice_get_within}
 use Rattle.std.proofs.lemmas.Slice.Eq.{bytes_eq-Decides}
+use Rattle.std.proofs.lemmas.List.{length-map}
+use Rattle.std.specs.List.{list_any, position_from}
+use Rattle.std.specs.Option.{option_map}
 use Rattle.cep_rule.specs.Names.{AllDiffer}
+use Rattle.cep_rule.specs.declared.parts.Stage.{Stage}
 use Rattle.cep_text.specs.Reading.{◌>>=◌, number_among, stage_names}
+use Rattle.cep_text.specs.StageNames.{IsStageNamed}
 pub use Rattle.cep_base.proofs.Lists.{some_same as some_is, holds_at as all_at}
 pub use Rattle.cep_base.proofs.Bytes.{bytes_differ as bytes_apart}
-use Rattle.cep_rule.specs.declared.parts.Stage.{Stage}
-use Rattle.cep_text.specs.StageNames.{IsStageNamed}
-use Rattle.std.specs.List.{list_any, position_from}
-use Rattle.std.proofs.lemmas.Iterator.Adapters.{position_from-zero}
 use Rattle.cep_base.proofs.Bytes.{bytes_eq_sym}
 
 -- The number of a name among names.
@@ -90,8 +90,7 @@ stage_found stages name number is = by_place (slice_get stages number) refl wher
   by_place (Some stage) e = (stage, e, some_is stage.name name (sym (ap (option_map (λ stage. stage.name)) e) ∙ named))
 
 pub no_stage : (stages : List Stage) (name : List ℕ) → number_among (stage_names stages) name ≡ None → (number : ℕ) → IsStageNamed stages number name → ⊥
-no_stage stages name is number named =
-    not_among (stage_names stages) name number is (slice_get-map (λ stage. stage.name) stages number ∙ ap (option_map (λ stage. stage.name)) named.1 ∙ ap Some named.2)
+no_stage stages name is number named = not_among (stage_names stages) name number is (slice_get-map (λ stage. stage.name) stages number ∙ ap (option_map (λ stage. stage.name)) named.1 ∙ ap Some named.2)
 
 -- A table's keys, each of which holds its name in a field that `name_of` reads.
 
@@ -112,9 +111,6 @@ take_next names i name e = grind arith
 shifted : (same : Bool) (i : ℕ) (found rest : Option ℕ) → found ≡ (rest >>= λ number. Some (i + 1 + number)) → cond same (Some i) found ≡ (cond same (Some zero) (rest >>= λ number. Some (suc number)) >>= λ number. Some (i + number))
 shifted same i found rest e = grind arith
 
-from_zero : (found : Option ℕ) → (found >>= λ number. Some (0 + number)) ≡ found
-from_zero found = grind arith
-
 module _ {K : Type 0} (name_of : K → List ℕ) where
   pub none_seen : (name : List ℕ) (keys : List K) → number_among (map name_of keys) name ≡ None → list_any (λ key. bytes_eq name (name_of key)) keys ≡ false
   unfolding number_among
@@ -131,4 +127,4 @@ module _ {K : Type 0} (name_of : K → List ℕ) where
 
   -- the place of a key is the number of its name
   pub number_seen : (name : List ℕ) (keys : List K) → position (λ key. bytes_eq name (name_of key)) keys ≡ number_among (map name_of keys) name
-  number_seen name keys = position_from-zero (λ key. bytes_eq name (name_of key)) keys ∙ from_seen name 0 keys ∙ from_zero (number_among (map name_of keys) name)
+  number_seen name keys = position_from-zero (λ key. bytes_eq name (name_of key)) keys ∙ from_seen name 0 keys ∙ (grind arith)

@@ -3,20 +3,20 @@ use Rattle.std.proofs.Common.{◌≡◌, ℕ, ◌-◌, ◌<◌, ◌≤◌, true,
 use Rattle.std.proofs.lemmas.Bool.{eqb-true, leb-true, le-leb}
 use Rattle.cep_base.specs.declared.limits.TheConstants.{MOST_DEPTH, MOST_NODES}
 use Rattle.cep_term.specs.Tree.{Tree, Trees, AtomTree, variable, node, IsGround, AreGround, IsFit, term_nodes, argument_nodes, argument_depth}
-use Rattle.cep_rule.specs.declared.signature.Con.{Con}
-use Rattle.cep_rule.specs.declared.signature.PredDecl.{PredDecl}
-use Rattle.cep_rule.specs.declared.signature.Signature.{Signature}
-use Rattle.cep_rule.specs.declared.parts.Parts.{Parts}
 use Rattle.cep_rule.specs.Names.{AreNames}
-use Rattle.cep_rule.specs.Typing.{HasSort, HaveSorts, IsValue}
 use Rattle.cep_rule.specs.Program.{IsProgram}
 use Rattle.cep_rule.specs.Shapes.{IsSmallTerm}
-use Rattle.cep_text.specs.Texts.{pred_name, term_text, args_text}
-use Rattle.cep_text.specs.Reads.{IsTermText, IsAtomText}
-use Rattle.cep_text.specs.Reading.{◌>>=◌, con_names, pred_names, pred_at, arguments_at, value_at, small_at, whole, term_read, atom_read}
-use Rattle.cep_text.proofs.TableLemmas.{by_bind, guard_some, none_is, all_at}
+use Rattle.cep_rule.specs.declared.parts.Parts.{Parts}
+use Rattle.cep_rule.specs.declared.signature.Con.{Con}
+use Rattle.cep_rule.specs.Typing.{HasSort, HaveSorts, IsValue}
+use Rattle.cep_rule.specs.declared.signature.PredDecl.{PredDecl}
+use Rattle.cep_rule.specs.declared.signature.Signature.{Signature}
 use Rattle.cep_text.proofs.Heads.{IsApart, pred_found, pred_again}
+use Rattle.cep_text.proofs.TableLemmas.{by_bind, guard_some, none_is, all_at}
 use Rattle.cep_text.proofs.ValuesFound.{FoundAll, value_found, arguments_found, con_of, value_again, arguments_again, args_apart}
+use Rattle.cep_text.specs.Reading.{◌>>=◌, con_names, pred_names, pred_at, arguments_at, value_at, small_at, whole, term_read, atom_read}
+use Rattle.cep_text.specs.Reads.{IsTermText, IsAtomText}
+use Rattle.cep_text.specs.Texts.{pred_name, term_text, args_text}
 
 -- A small value of the type, whose text stands before the rest.
 pub record SmallFound (signature : Signature) (sort : ℕ) (bytes : List ℕ) (t : Tree) (rest : List ℕ) : Type 0 where

@@ -1,18 +1,18 @@
 -- The constructors of values are declared.
 use Rattle.std.proofs.Common.{◌≡◌, ℕ, List, [], ◌∷◌, arith, suc, length, sym, ap, subst, ◌∙◌}
 use Rattle.std.specs.Prelude.{Option, slice_get, IsSomeAnd, Some}
-use Rattle.cep_term.specs.Tree.{Tree, Trees, variable, node, none, more, IsGround, AreGround}
-use Rattle.cep_rule.specs.declared.signature.Con.{Con}
-use Rattle.cep_rule.specs.declared.signature.PredDecl.{PredDecl}
-use Rattle.cep_rule.specs.Typing.{HasSort, HaveSorts, AreValues}
-use Rattle.cep_text.specs.Texts.{HasNames, HaveNames}
 use Rattle.std.specs.List.{AllByRecursion}
-use Rattle.cep_rule.specs.declared.rule.Rule.{Rule}
-use Rattle.cep_rule.specs.declared.parts.Parts.{Parts}
-use Rattle.cep_rule.specs.declared.offer.Offer.{Offer}
+use Rattle.cep_term.specs.Tree.{Tree, Trees, variable, node, none, more, IsGround, AreGround}
 use Rattle.cep_rule.specs.Patterns.{ClauseTree}
-use Rattle.cep_rule.specs.Program.{IsProgram, IsTypedRule, IsTypedClause}
+use Rattle.cep_rule.specs.declared.rule.Rule.{Rule}
+use Rattle.cep_rule.specs.Program.{IsProgram, IsTypedRule}
+use Rattle.cep_rule.specs.Typing.{HasSort, HaveSorts, AreValues}
+use Rattle.cep_rule.specs.declared.signature.PredDecl.{PredDecl}
 use Rattle.cep_rule.specs.Shapes.{IsOfferOf, IsNodeOf}
+use Rattle.cep_rule.specs.declared.offer.Offer.{Offer}
+use Rattle.cep_rule.specs.declared.parts.Parts.{Parts}
+use Rattle.cep_rule.specs.declared.signature.Con.{Con}
+use Rattle.cep_text.specs.Texts.{HasNames, HaveNames}
 use Rattle.cep_base.proofs.Lists.{holds_at as found_in}
 
 -- The constructors of a well-typed ground term are declared.
@@ -65,6 +65,4 @@ pub node_values : (program : Parts) (number : ℕ) (values : List Tree) (clause 
 node_values program number values clause is found = told _ (slice_get program.clauses number) clause found is
 
 pub clause_as_many : (program : Parts) (number : ℕ) (values : List Tree) (clause : ClauseTree) → IsProgram program → IsNodeOf program number values → slice_get program.clauses number ≡ Some clause → length clause.vars ≡ length values
-clause_as_many program number values clause keeps is found =
-    let typed = found_in (IsTypedClause program.signature) program.clauses number clause keeps.typed_clauses found in
-    sym typed.kinds ∙ as_many program.signature.cons clause.kinds values (node_values program number values clause is found)
+clause_as_many program number values clause keeps is found = grind (arith, found_in, as_many, node_values)

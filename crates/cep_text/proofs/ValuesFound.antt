@@ -1,21 +1,21 @@
 -- What is read as a term is the text of one, and the text of a term is read as that term.
 use Rattle.std.proofs.Common.{◌≡◌, ◌≢◌, ℕ, Bool, cond, eqb, List, [], ◌∷◌, ◌++◌, Option, Some, None, MatchOption, refl, ap, ◌∙◌, Bor, arith, zero, suc, ◌≤◌, true, false, length, slice_get, codes, IsSomeAnd, sym, subst, append_assoc, append-nil, ◌+◌, drop, ◌-◌}
+use Rattle.std.proofs.Math.Dec.{eqb-suc-zero}
 use Rattle.std.proofs.lemmas.Bool.{eqb-true, eq-eqb}
-use Rattle.cep_text.specs.Reading.{literal_at, Reader, con_at, bare_at, argument_at, arguments_at, inside_at, enclosed_at, value_by, value_at, ◌>>=◌, Fails, given_at, givens_at, proofs_at, node_at, proof_at, con_names}
-use Rattle.cep_term.specs.Tree.{Tree, Trees, node, none, more, AreGround, term_depth, argument_depth, variable, IsGround}
-use Rattle.cep_rule.specs.declared.signature.Con.{Con}
-use Rattle.cep_rule.specs.declared.signature.Signature.{Signature}
-use Rattle.cep_rule.specs.Typing.{HaveSorts, IsValue, HasSort}
-use Rattle.cep_text.specs.Texts.{con_name, term_text, args_text}
-use Rattle.cep_text.proofs.TableLemmas.{by_bind, guard_some, some_is, all_at, item_name}
 use Rattle.cep_text.proofs.Heads.{con_found, IsApart, con_again, no_parenthesis}
-use Rattle.cep_rule.specs.declared.parts.Parts.{Parts}
-use Rattle.cep_rule.specs.Derivations.{ProofTree, no_goal, goal_by}
+use Rattle.cep_text.proofs.TableLemmas.{by_bind, guard_some, some_is, all_at, item_name}
+use Rattle.cep_text.specs.Reading.{literal_at, Reader, con_at, bare_at, argument_at, arguments_at, inside_at, enclosed_at, value_by, value_at, ◌>>=◌, Fails, given_at, givens_at, proofs_at, node_at, proof_at, con_names}
+use Rattle.cep_text.specs.Texts.{con_name, term_text, args_text}
 use Rattle.cep_text.specs.declared.stop.Stop.{Stop}
+use Rattle.cep_term.specs.Tree.{Tree, Trees, node, none, more, AreGround, term_depth, argument_depth, variable, IsGround}
+use Rattle.cep_rule.specs.Derivations.{ProofTree, no_goal, goal_by}
+use Rattle.cep_rule.specs.Typing.{HaveSorts, IsValue, HasSort}
+use Rattle.cep_rule.specs.declared.signature.Signature.{Signature}
+use Rattle.cep_rule.specs.Names.{IsName, AreNames}
+use Rattle.cep_rule.specs.declared.parts.Parts.{Parts}
+use Rattle.cep_rule.specs.declared.signature.Con.{Con}
 use Rattle.cep_text.specs.declared.stop.Stop.TheVariants as stops
 use Rattle.cep_base.proofs.Drops.{drop_at-suc as from_place}
-use Rattle.std.proofs.Math.Dec.{eqb-suc-zero}
-use Rattle.cep_rule.specs.Names.{IsName, AreNames}
 
 -- Words at the front of a list.
 
