@@ -3,9 +3,10 @@ use Rattle.std.proofs.Common.{◌≡◌, ◌⊎◌, ℕ, List, [], ◌∷◌, �
 use Rattle.std.specs.Prelude.{slice_get, Some}
 use Rattle.std.specs.List.{AllByRecursion, flat_map}
 use Rattle.std.proofs.lemmas.List.{get_or-map, length-map}
-use Rattle.std.proofs.lemmas.List.Elements.{All-append, All-contains, All-from_recursion, recursion_from_All, Contains-get_or, Contains-append_left, Contains-append_right, Contains-append_cases}
+use Rattle.std.proofs.lemmas.List.Elements.{All-append, All-contains, All-from_recursion, recursion_from_All, Contains-get_or, Contains-append_right}
 use Rattle.std.proofs.lemmas.Option.{slice_get_within, get_or_from_slice_get}
 use Rattle.cep_base.proofs.Members.{via, through, image, to_contains, from_contains}
+pub use Rattle.std.proofs.lemmas.List.Elements.{Contains-append_left as contains_left, Contains-append_right as contains_right, Contains-append_cases as contains_either}
 
 module _ {X : Type 0} where
   -- what holds of two lists holds of both, one after the other
@@ -39,16 +40,6 @@ module _ {X : Type 0} where
   -- what holds of each element holds of all
   pub all_of : (P : X → Type 0) (xs : List X) → ((x : X) → Contains xs x → P x) → AllByRecursion P xs
   all_of P xs each = search (recursion_from_All, Contains-get_or)
-
-  -- an element of one of two lists
-  pub contains_left : (xs ys : List X) (x : X) → Contains xs x → Contains (xs ++ ys) x
-  contains_left xs ys x there = Contains-append_left xs ys x there
-
-  pub contains_right : (xs ys : List X) (x : X) → Contains ys x → Contains (xs ++ ys) x
-  contains_right xs ys x there = Contains-append_right xs ys x there
-
-  pub contains_either : (xs ys : List X) (x : X) → Contains (xs ++ ys) x → Contains xs x ⊎ Contains ys x
-  contains_either xs ys x there = Contains-append_cases xs ys x there
 
   -- what stands at a place is an element
   pub contains_at : (xs : List X) (i : ℕ) (x : X) → slice_get xs i ≡ Some x → Contains xs x

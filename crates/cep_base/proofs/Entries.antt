@@ -1,10 +1,10 @@
 -- The entries of a map, whose keys hold their names in a field that `name_of` reads.
 use Rattle.std.proofs.Common.{◌≡◌, ℕ, zero, suc, Some, false, not, List, [], ◌∷◌, ◌++◌, map, is_some, position, refl, arith}
-use Rattle.std.specs.List.{list_any, prefix_len, slice_get}
 use Rattle.std.proofs.lemmas.List.{length-map}
-use Rattle.indexmap.specs.IndexMap.{insert_entry}
+use Rattle.std.specs.List.{list_any, prefix_len, slice_get}
 use Rattle.std.specs.Map.{lookup, keys_of}
 use Rattle.std.specs.Str.{bytes_eq}
+use Rattle.indexmap.specs.IndexMap.{insert_entry}
 
 module _ {K X : Type 0} (name_of : K → List ℕ) where
   abbrev pub seen : List (K × X) → List (List ℕ × X)

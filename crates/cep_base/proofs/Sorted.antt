@@ -1,17 +1,17 @@
 -- Where a binary search ends in a list whose items increase by a key, and edits that keep it so. The list may be the image of the one that is searched.
 use Rattle.std.proofs.Common.{◌≡◌, ℕ, zero, suc, ◌<◌, ◌≤◌, ◌-◌, Bool, true, false, cond, List, [], ◌∷◌, length, map, get_or, refl, sym, ap, ◌∙◌, arith}
-use Rattle.std.specs.Prelude.{Result, Ok, Err, IfOk, IfErr, insert, filter}
+use Rattle.std.specs.Prelude.{Result, Ok, Err, IfOk, IfErr}
 use Rattle.std.specs.List.{AllByRecursion}
-use Rattle.std.specs.List.Sorted.{IsSearchInRange, IsBinarySearchResult, IsNonDecreasingBy}
 use Rattle.std.specs.declared.cmp.Ordering.{Ordering}
-use Rattle.std.specs.declared.cmp.Ordering.TheVariants.{Less, Equal, Greater}
+use Rattle.std.specs.List.Sorted.{IsSearchInRange, IsBinarySearchResult, IsNonDecreasingBy}
 use Rattle.std.specs.Ordering.{is_lt, ordering_index, ordering_reverse}
+use Rattle.std.specs.declared.cmp.Ordering.TheVariants.{Less, Equal, Greater}
 use Rattle.std.specs.Cmp.{IsTotalOrder, alike_right}
-use Rattle.std.specs.FinMap as finite
 use Rattle.std.specs.FinMap.{IsAntisymmetric}
 use Rattle.std.specs.FinMap.Entries.{below_all}
 use Rattle.std.proofs.lemmas.Bool.{and_parts}
 use Rattle.cep_base.specs.Sorted.{IsIncreasing, IsPlaceOf, IsGapOf}
+use Rattle.std.specs.FinMap as finite
 
 pub is_less : (r : Ordering) → is_lt r ≡ true → r ≡ Less
 is_less Less e = refl
@@ -39,30 +39,6 @@ module _ {E K X : Type 0} (key : E → K) (cmp : K → K → Ordering) (f : X �
   below_at k [] j d below within = absurd (omega arith)
   below_at k (x ∷ xs) zero d below within = below.0
   below_at k (x ∷ xs) (suc j) d below within = below_at k xs j d below.1 (omega arith)
-
-  -- what holds of all holds with one more of which it holds, and of some of them
-  pub all_insert : (P : E → Type 0) (xs : List X) (i : ℕ) (x : X) → AllByRecursion P (map f xs) → P (f x) → AllByRecursion P (map f (insert xs i x))
-  all_insert P [] zero x all one = (one, tt)
-  all_insert P [] (suc i) x all one = (one, tt)
-  all_insert P (y ∷ xs) zero x all one = (one, all)
-  all_insert P (y ∷ xs) (suc i) x all one = (all.0, all_insert P xs i x all.1 one)
-
-  pub all_kept : (P : E → Type 0) (test : X → Bool) (xs : List X) → AllByRecursion P (map f xs) → AllByRecursion P (map f (filter test xs))
-  all_kept P test [] all = tt
-  all_kept P test (x ∷ xs) all = by (test x) (all_kept P test xs all.1)
-    where
-      by : (t : Bool) → AllByRecursion P (map f (filter test xs)) → AllByRecursion P (map f (cond t (x ∷ filter test xs) (filter test xs)))
-      by true rest = (all.0, rest)
-      by false rest = rest
-
-  -- some of the items increase as all do
-  pub increasing_filter : (test : X → Bool) (xs : List X) → IsIncreasing key cmp (map f xs) → IsIncreasing key cmp (map f (filter test xs))
-  increasing_filter test [] up = tt
-  increasing_filter test (x ∷ xs) up = by (test x) (increasing_filter test xs up.1)
-    where
-      by : (t : Bool) → IsIncreasing key cmp (map f (filter test xs)) → IsIncreasing key cmp (map f (cond t (x ∷ filter test xs) (filter test xs)))
-      by true rest = (all_kept (λ later. cmp (key (f x)) (key later) ≡ Less) test xs up.0, rest)
-      by false rest = rest
 
   -- a place between lesser and greater items is the gap
   pub gap_from_sides : (k : K) (xs : List X) (i : ℕ) → i ≤ length xs
@@ -108,23 +84,6 @@ module _ {E K X : Type 0} (key : E → K) (cmp : K → K → Ordering) (f : X �
     pub gap_at_end : (k : K) (xs : List X) (last : X) → IsIncreasing key cmp (map f xs) → last ≡ get_or xs (length xs - 1) last → cmp (key (f last)) k ≡ Less → IsGapOf key cmp (map f xs) k (length xs)
     gap_at_end k [] last up is less = tt
     gap_at_end k (x ∷ xs) last up is less = gap_after k (x ∷ xs) (length (x ∷ xs) - 1) last up (omega arith) (omega arith) is less
-
-    -- an item is put between lesser and greater ones
-    all_greater : (k : K) (xs : List X) → ((j : ℕ) (d : X) → j < length xs → cmp (key (f (get_or xs j d))) k ≡ Greater) → AllByRecursion (λ later. cmp k (key later) ≡ Less) (map f xs)
-    all_greater k [] after = tt
-    all_greater k (x ∷ xs) after = (turned (key (f x)) k Greater (after 0 x (omega arith)), all_greater k xs (λ j d lt. after (suc j) d (omega arith)))
-
-    pub increasing_insert : (xs : List X) (i : ℕ) (x : X) → IsIncreasing key cmp (map f xs) → i ≤ length xs
-        → ((j : ℕ) (d : X) → j < i → cmp (key (f (get_or xs j d))) (key (f x)) ≡ Less)
-        → ((j : ℕ) (d : X) → i ≤ j → j < length xs → cmp (key (f (get_or xs j d))) (key (f x)) ≡ Greater)
-        → IsIncreasing key cmp (map f (insert xs i x))
-    increasing_insert [] zero x up within before after = (tt, tt)
-    increasing_insert [] (suc i) x up within before after = absurd (omega arith)
-    increasing_insert (y ∷ xs) zero x up within before after = (all_greater (key (f x)) (y ∷ xs) (λ j d lt. after j d (omega arith) lt), up)
-    increasing_insert (y ∷ xs) (suc i) x up within before after = (
-      all_insert (λ later. cmp (key (f y)) (key later) ≡ Less) xs i x up.0 (before 0 y (omega arith)),
-      increasing_insert xs i x up.1 (omega arith) (λ j d lt. before (suc j) d (omega arith)) (λ j d ge lt. after (suc j) d (omega arith) (omega arith)),
-    )
 
     module _ (ties : IsAntisymmetric cmp) where
       -- an item that ties with the key is at the key's place

@@ -1,12 +1,10 @@
 -- In a reordering of a legal log each step is legal where it comes, and the outcome is one.
 use Rattle.std.proofs.Common.{◌≡◌, ◌⊎◌, inl, inr, ⊎_elim, ℕ, zero, suc, ◌+◌, ◌<◌, Bool, true, false, List, [], ◌∷◌, ◌++◌, length, Option, Some, None, refl, sym, ap, ◌∙◌, subst, arith, Contains, ◌≤◌}
-use Rattle.std.proofs.lemmas.Option.{slice_get_within}
-use Rattle.std.specs.Prelude.{slice_get, unwrap_or, is_some, IfSome, ◌↔◌}
-use Rattle.std.specs.FinMap as finite
 use Rattle.std.proofs.lemmas.Bool.{false≢true}
+use Rattle.std.specs.Prelude.{slice_get, unwrap_or, is_some, IfSome, ◌↔◌}
 use Rattle.cep_base.proofs.Lists.{some_same, holds_at}
-use Rattle.cep_base.proofs.Elements.{contains_none, contains_first, contains_cases, contains_left, contains_right, contains_either, contains_behind, contains_same, all_at}
 use Rattle.cep_term.specs.Multiset.{Multiset, gathered, IsContained}
+use Rattle.cep_base.proofs.Elements.{contains_none, contains_first, contains_cases, contains_left, contains_right, contains_either, contains_behind, contains_same, all_at}
 use Rattle.cep_rule.specs.declared.rule.Rule.{Rule}
 use Rattle.cep_rule.specs.declared.offer.Offer.{Offer}
 use Rattle.cep_rule.specs.Derivations.{ProofTree}
@@ -15,31 +13,25 @@ use Rattle.cep_rule.specs.Matching.{state_after}
 use Rattle.cep_rule.specs.Stages.{own_group, leaving_group, HasOffer}
 use Rattle.cep_rule.specs.State.{Fits}
 use Rattle.cep_rule.specs.Step.{Step}
+use Rattle.cep_rule.specs.declared.parts.Parts.{Parts}
 use Rattle.cep_rule.specs.Steps.{Spot, IsMachineStep, start_spot, stage_after}
+use Rattle.cep_cause.specs.Reorderings.{Precedes, Respects, IsReordering}
 use Rattle.cep_log.specs.declared.log.LogStep.{LogStep}
 use Rattle.cep_log.specs.Legal.{IsLegalStep, AreLegalSteps}
 use Rattle.cep_log.specs.Written.{DoTheSame}
 use Rattle.cep_cause.specs.Tokens.{start_tokens}
 use Rattle.cep_cause.specs.Touches.{Touch}
+use Rattle.cep_cause.specs.CauseLaws.{CauseLaws}
 use Rattle.cep_cause.proofs.Distinct.{Differ, differ_both, weighs_less}
 use Rattle.cep_cause.proofs.Ordered.{three, IsNext, AreSpent, none_spent, spent_more}
-use Rattle.cep_cause.proofs.StatesAfter.{IsStateAfter, state_at_start, state_more, one_state_after, stage_by, stage_stays, stage_more, first_stage, LegalRun, passed, as_long, takes, adds, IsFamiliar, familiar, IsOldStep, old_step, old_end, few_needed}
-use Rattle.cep_rule.specs.declared.parts.Parts.{Parts}
-use Rattle.cep_cause.specs.CauseLaws.{CauseLaws}
 use Rattle.cep_cause.specs.Reordered.{IsUnfitAt, StandAt}
+use Rattle.cep_cause.proofs.StatesAfter.{IsStateAfter, state_at_start, state_more, one_state_after, stage_by, stage_stays, stage_more, first_stage, LegalRun, passed, as_long, takes, adds, IsFamiliar, familiar, IsOldStep, old_step, old_end, few_needed}
 use Rattle.std.specs.List.{AllByRecursion, sum_by}
 use Rattle.std.proofs.lemmas.List.Sums.{sum_by-cons}
-use Rattle.cep_cause.specs.Reorderings.{Precedes, Respects, IsReordering}
+use Rattle.std.specs.FinMap as finite
+pub use Rattle.cep_base.proofs.Options.{item_at as got, within_got as at_within}
 
 -- The central law: in a reordering of a legal log each step that comes is legal where it comes, if the state that it leads to fits, and the last spot is the old one.
-
-pub got : {X : Type 0} (xs : List X) (place : ℕ) → place < length xs → (x : X) × (slice_get xs place ≡ Some x)
-got [] place within = absurd (omega arith)
-got (x ∷ xs) zero within = (x, refl)
-got (x ∷ xs) (suc place) within = got xs place (omega arith)
-
-pub at_within : {X : Type 0} (xs : List X) (place : ℕ) (x : X) → slice_get xs place ≡ Some x → place < length xs
-at_within xs place x at = slice_get_within xs place x at
 
 pub one_spot : (one other : Spot) → one.stage ≡ other.stage → one.state ≡ other.state → one ≡ other
 one_spot one other stage state = ap (λ n. record { stage = n; state = one.state }) stage ∙ ap (λ (s : Multiset). record { stage = other.stage; state = s }) state
@@ -312,8 +304,6 @@ module _ (laws : CauseLaws) (program : Parts) (height : ℕ) where
       omega arith
 
 -- A legal log in another order, told in version 2.
-
--- How long an order is
 
 downto : ℕ → List ℕ
 downto zero = []

@@ -8,8 +8,8 @@ use Rattle.cep_base.proofs.Elements.{contains_none, contains_first, contains_cas
 use Rattle.cep_cause.specs.Tokens.{Token}
 use Rattle.cep_cause.specs.Touches.{Touch}
 use Rattle.cep_cause.specs.Reorderings.{Precedes, Respects, IsReordering}
-use Rattle.cep_cause.proofs.Distinct.{Differ, differ_both, weighs_less}
 use Rattle.cep_cause.proofs.Tokened.{IsMadeBefore}
+use Rattle.cep_cause.proofs.Distinct.{Differ, differ_both, weighs_less}
 
 pub three : (a b : ℕ) → (a < b) ⊎ ((a ≡ b) ⊎ (b < a))
 three a b = grind arith

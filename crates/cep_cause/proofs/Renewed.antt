@@ -1,33 +1,32 @@
 -- The steps of a legal log are renewed one after another, in any order, and what is written is the new log's text.
 use Rattle.std.proofs.Common.{◌≡◌, ℕ, cond, List, [], ◌∷◌, ◌++◌, map, append_assoc, append-nil, Bool, true, false, Option, Some, None, refl, sym, ap, ◌∙◌, ◌+◌, ◌<◌, ◌≤◌, length, length-append, subst, arith, ◌⊎◌, inl, inr, ⊎_elim}
 use Rattle.std.specs.List.{flat_map, AllZip, AllByRecursion}
-use Rattle.std.specs.FinMap as finite
+use Rattle.std.specs.Prelude.{IfSome, IsSomeAnd, is_some}
 use Rattle.std.proofs.lemmas.Grind.{flat_map-append}
 use Rattle.cep_term.specs.Tree.{AtomTree}
 use Rattle.cep_term.specs.Multiset.{Multiset}
-use Rattle.cep_rule.specs.declared.parts.Parts.{Parts}
-use Rattle.cep_rule.specs.Derivations.{ProofTree}
 use Rattle.cep_lines.specs.declared.version.Version.TheVariants.{Two, One}
+use Rattle.cep_rule.specs.declared.parts.Parts.{Parts}
+use Rattle.cep_rule.specs.declared.rule.Rule.{Rule}
+use Rattle.cep_rule.specs.Derivations.{ProofTree}
+use Rattle.cep_rule.specs.Steps.{Spot, StepsTo, AreProofs, start_spot}
 use Rattle.cep_lines.specs.Lines.{line, has_listing, have_text, have_line, listing, stage_text, stage_line, next_line, step_text, step_line, by_text, by_line, by_lines, state_text, step_lines, mid_lines, expected_listing, deed_lines, end_text, end_lines, version_text, height_text, header}
 use Rattle.cep_log.specs.declared.log.LogStep.{LogStep}
 use Rattle.cep_log.specs.declared.log.LogMid.{LogMid}
 use Rattle.cep_log.specs.declared.log.LogEnd.{LogEnd}
+use Rattle.cep_log.specs.declared.log.Log.{Log}
 use Rattle.cep_log.specs.Transcript.{stage_texts, HasLog}
 use Rattle.cep_log.specs.Written.{mid_texts, step_texts, end_texts, start_texts, steps_texts, text_of, TellSteps, TellLog, DoTheSame, SayTheSame, EndTheSame, TellTheSame, IsRenewal}
 use Rattle.cep_cause.specs.Renewing.{renewed_lines, last_lines, AreAllRenewed, AreRenewedOrLong, CanBePut, LeadsTo, AreRenewedLines, IsRenewingAt}
-use Rattle.std.specs.Prelude.{IfSome, IsSomeAnd, is_some}
 use Rattle.std.proofs.lemmas.Slice.Zip.{AllZip-long}
 use Rattle.cep_base.specs.declared.limits.TheConstants.{MOST_LOG}
-use Rattle.cep_rule.specs.Steps.{Spot, StepsTo, AreProofs, start_spot}
+use Rattle.cep_base.proofs.Lists.{holds_at}
 use Rattle.cep_rule.specs.Program.{IsProgram, IsTypedRule, IsDividedRule}
-use Rattle.cep_log.specs.declared.log.Log.{Log}
+use Rattle.cep_rule.specs.State.{IsState}
+use Rattle.cep_rule.specs.Shapes.{IsProofOf}
+use Rattle.cep_step.specs.Spots.{IsSpotOf}
 use Rattle.cep_log.specs.Legal.{IsListing, IsLegalEnd, IsLegal, IsStepOf, IsLegalStep, AreLegalSteps}
 use Rattle.cep_cause.specs.Renewed.{IsRenewedText, IsTooLongRenewed}
-use Rattle.cep_base.proofs.Lists.{holds_at}
-use Rattle.cep_rule.specs.declared.rule.Rule.{Rule}
-use Rattle.cep_rule.specs.State.{IsState}
-use Rattle.cep_step.specs.Spots.{IsSpotOf}
-use Rattle.cep_rule.specs.Shapes.{IsProofOf}
 use Rattle.cep_cause.specs.CauseLaws.{CauseLaws}
 use Rattle.cep_cause.specs.Tokens.{start_tokens}
 use Rattle.cep_cause.specs.Touches.{Touch, AreTouchesOf}
@@ -35,9 +34,10 @@ use Rattle.cep_cause.specs.Reorderings.{IsReordering}
 use Rattle.cep_cause.specs.Reordered.{unlisted, IsInOrder, IsUnfitIn, IsRenewalIn}
 use Rattle.cep_cause.proofs.StatesAfter.{as_many}
 use Rattle.cep_cause.proofs.Walked.{run_of}
-use Rattle.cep_cause.proofs.Walked as law
 use Rattle.cep_cause.proofs.Central.{stand}
 use Rattle.cep_cause.proofs.WrittenOrder.{legal_in_order, renewed_in_order}
+use Rattle.std.specs.FinMap as finite
+use Rattle.cep_cause.proofs.Walked as law
 
 -- What is written of a log renewed is its text.
 
@@ -123,8 +123,6 @@ pub record IsRenewedAs (program : Parts) (old : Log) (text : List ℕ) : Type 0 
   pub renews : IsRenewal program old new
   pub written : text ≡ text_of program new
 
--- Ends
-
 same_end : (program : Parts) (height : ℕ) (last : Spot) (end : Option LogEnd) → IsSomeAnd end (IsLegalEnd program height last) → EndTheSame end (end_at end last.state)
 same_end program height last end legal = grind arith
 
@@ -133,8 +131,6 @@ legal_end program height last end legal = grind arith
 
 listed_end : (program : Parts) (height : ℕ) (last : Spot) (end : Option LogEnd) → IsSomeAnd end (IsLegalEnd program height last) → IfSome end (λ end. IsListing program.signature end.state) → IfSome (end_at end last.state) (λ end. IsListing program.signature end.state)
 listed_end program height last end legal is = grind arith
-
--- Logs that do the same
 
 does_both : (one other last : LogStep) → DoTheSame one other → DoTheSame other last → DoTheSame one last
 does_both one other last a b = record { offer = a.offer ∙ b.offer; proofs = a.proofs ∙ b.proofs; stage = a.stage ∙ b.stage }
@@ -145,8 +141,6 @@ do_both steps others lasts a b = grind arith
 
 ends_both : (one other last : Option LogEnd) → EndTheSame one other → EndTheSame other last → EndTheSame one last
 ends_both one other last a b = grind arith
-
--- Lines without remarks
 
 steps_told : (program : Parts) (number : ℕ) (steps : List LogStep) → TellSteps program number steps (steps_texts program number steps)
 steps_told program number [] = refl
@@ -252,8 +246,6 @@ module _ (program : Parts) (is : IsProgram program) (log : Log) (legal : IsLegal
 -- The steps of a legal log are renewed one after another.
 
 module _ (laws : CauseLaws) (program : Parts) (is : IsProgram program) (height : ℕ) where
-  -- Single steps
-
   all_of_shape : (proofs : List ProofTree) (atoms : List AtomTree) → AreProofs program height proofs atoms → AllByRecursion (IsProofOf program) proofs
   all_of_shape (proof ∷ proofs) (a ∷ atoms) are = (laws.shapes program proof a are.0, all_of_shape proofs atoms are.2)
   all_of_shape proofs atoms are = grind arith
@@ -278,15 +270,11 @@ module _ (laws : CauseLaws) (program : Parts) (is : IsProgram program) (height :
       laws.lead program.signature rule step.offer.values old.state new.state (holds_at (IsTypedRule program.signature) program.rules step.offer.rule rule is.typed_rules machine.numbered)
       (holds_at (IsDividedRule program.signature) program.rules step.offer.rule rule is.divided_rules machine.numbered) machine.values before machine.steps.fit machine.steps.step
 
-  -- Listings
-
   due_holds : (P : List (AtomTree × ℕ) → Type 0) (number : ℕ) (state : Multiset) → P (finite.entries state) → IfSome (due_mid number state) (λ mid. P mid.state)
   due_holds P number state holds = grind (arith, listed)
 
   due_wanted : (number : ℕ) (state : Multiset) → is_some (due_mid number state) ≡ has_listing Two number
   due_wanted number state = grind (arith, listed)
-
-  -- Steps
 
   -- one step more in front
   lines_more : (number : ℕ) (step : LogStep) (steps : List LogStep) (old new last : Spot) → IsStepOf program step → IsLegalStep program height old new step → IsState program.signature new.state

@@ -7,9 +7,9 @@ use Rattle.cep_term.specs.Multiset.{Multiset, count_of, gathered, sum_of, differ
 use Rattle.cep_rule.specs.declared.signature.Signature.{Signature}
 use Rattle.cep_rule.specs.declared.rule.Rule.{Rule}
 use Rattle.cep_rule.specs.Typing.{AreValues, is_fact}
-use Rattle.cep_rule.specs.Instances.{full_instances, used_by, left_of}
 use Rattle.cep_rule.specs.Matching.{state_after}
 use Rattle.cep_rule.specs.State.{IsState}
+use Rattle.cep_rule.specs.Instances.{full_instances, used_by, left_of}
 use Rattle.cep_rule.specs.Step.{Step}
 use Rattle.cep_rule.specs.Program.{IsTypedRule, IsDividedRule, IsGroupedRule, IsProgram}
 use Rattle.cep_cause.specs.CauseLaws.{CauseLaws}
@@ -94,29 +94,23 @@ right_by_step rules (Some step) = right_by step.offer.values (slice_get rules st
 last_or : (a b : ℕ) → a < b + 1 → (a < b) ⊎ (b ≡ a)
 last_or a b less = grind arith
 
--- Stages
-
 -- the stage after so many steps
 abbrev pub stage_by : List LogStep → ℕ → ℕ → ℕ
 stage_by [] stage n = stage
 stage_by (step ∷ steps) stage zero = stage
 stage_by (step ∷ steps) stage (suc n) = stage_by steps (unwrap_or step.stage stage) n
 
+pub first_stage : (steps : List LogStep) (stage : ℕ) → stage_by steps stage 0 ≡ stage
+first_stage [] stage = refl
+first_stage (step ∷ steps) stage = refl
+
 -- It is the same where no step in between names one.
 pub stage_stays : (steps : List LogStep) (stage few many : ℕ) → few ≤ many → ((place : ℕ) (step : LogStep) → few ≤ place → place < many → slice_get steps place ≡ Some step → step.stage ≡ None) → stage_by steps stage few ≡ stage_by steps stage many
 stage_stays (step ∷ steps) stage zero (suc many) less none =
     let same : stage ≡ unwrap_or step.stage stage = ap (λ (o : Option ℕ). unwrap_or o stage) (sym (none 0 step (omega arith) (omega arith) refl)) in
-    sym (first steps) ∙ stage_stays steps stage 0 many (omega arith) (λ place other few' less' at. none (suc place) other (omega arith) (omega arith) at) ∙ ap (λ s. stage_by steps s many) same
-  where
-    first : (steps : List LogStep) → stage_by steps stage 0 ≡ stage
-    first [] = refl
-    first (step ∷ steps) = refl
+    sym (first_stage steps stage) ∙ stage_stays steps stage 0 many (omega arith) (λ place other few' less' at. none (suc place) other (omega arith) (omega arith) at) ∙ ap (λ s. stage_by steps s many) same
 stage_stays (step ∷ steps) stage (suc few) (suc many) less none = rw (stage_stays steps (unwrap_or step.stage stage) few many (omega arith) (λ place other few' less' at. none (suc place) other (omega arith) (omega arith) at))
 stage_stays steps stage few many less none = grind arith
-
-pub first_stage : (steps : List LogStep) (stage : ℕ) → stage_by steps stage 0 ≡ stage
-first_stage [] stage = refl
-first_stage (step ∷ steps) stage = refl
 
 one_more : (steps : List LogStep) (stage place : ℕ) (step : LogStep) → slice_get steps place ≡ Some step → stage_by steps stage (suc place) ≡ unwrap_or step.stage (stage_by steps stage place)
 one_more (first ∷ steps) stage (suc place) step at = one_more steps (unwrap_or first.stage stage) place step at
@@ -125,8 +119,6 @@ one_more steps stage place step at = grind (arith, none_some, first_stage, some_
 -- One step more names its stage, or none.
 pub stage_more : (steps : List LogStep) (stage place : ℕ) (step : LogStep) → slice_get steps place ≡ Some step → stage_by steps stage (place + 1) ≡ unwrap_or step.stage (stage_by steps stage place)
 stage_more steps stage place step at = ap (λ n. stage_by steps stage n) (add-one place) ∙ one_more steps stage place step at
-
--- Touches by their places
 
 module _ (program : Parts) where
   -- What a step does to tokens, wherever it stands.

@@ -1,14 +1,14 @@
 -- Steps that are taken as they get ready are a reordering.
 use Rattle.std.proofs.Common.{◌≡◌, ◌⊎◌, inl, inr, ⊎_elim, ℕ, zero, suc, ◌+◌, ◌-◌, ◌<◌, ◌≤◌, List, [], ◌∷◌, ◌++◌, map, length, append_assoc, append-nil, refl, sym, ap, ◌∙◌, subst, arith, Contains}
 use Rattle.std.specs.List.{AllByRecursion}
+use Rattle.cep_cause.proofs.Ordered.{three}
+use Rattle.cep_cause.proofs.Central.{got, at_within}
 use Rattle.cep_base.proofs.Elements.{contains_none, contains_cases, contains_same, contains_behind, contains_left, contains_right, contains_at, all_of, all_at}
 use Rattle.cep_order.specs.declared.step_cause.StepCause.{StepCause}
 use Rattle.cep_order.specs.Orders.{NamesEarlier, PrecedesIn, IsReadyIn, IsTaken, AreTaken, IsOrderBy}
 use Rattle.cep_cause.specs.Touches.{Touch}
 use Rattle.cep_cause.specs.Reorderings.{Precedes, Respects, IsReordering, step_places, IsOrder, RestsOn}
 use Rattle.cep_cause.specs.Graphs.{AreCauses}
-use Rattle.cep_cause.proofs.Ordered.{three}
-use Rattle.cep_cause.proofs.Central.{got, at_within}
 
 -- What precedes precedes in the graph.
 precedes_in : (touches : List Touch) (causes : List StepCause) (i j : ℕ) → AreCauses touches causes → Precedes touches i j → PrecedesIn causes i j

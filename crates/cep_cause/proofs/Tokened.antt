@@ -1,27 +1,27 @@
 -- The tokens that are present, those that are picked, and those that are used.
 use Rattle.std.proofs.Common.{◌≡◌, ◌⊎◌, inl, inr, ⊎_elim, ℕ, zero, suc, ◌+◌, ◌<◌, ◌≤◌, true, not, List, [], ◌∷◌, length, refl, sym, ap, ◌∙◌, subst, arith, Contains, Bool, false, cond, ◌||◌, ◌&&◌, map, ◌≢◌, replicate, ◌++◌}
 use Rattle.std.specs.Prelude.{slice_get, Some, nat_lt, fold}
+use Rattle.std.specs.List.{filter, sum_by, flat_map}
 use Rattle.std.proofs.lemmas.Bool.{false≢true}
 use Rattle.cep_base.proofs.Elements.{contains_none, contains_behind, contains_cases, contains_same, contains_either, contains_first, contains_left, contains_right}
 use Rattle.cep_base.proofs.Lists.{none_some, some_same}
+use Rattle.cep_log.specs.declared.log.LogStep.{LogStep}
+use Rattle.cep_rule.specs.Instances.{full_instances}
 use Rattle.cep_term.specs.Tree.{Tree, AtomTree}
+use Rattle.cep_term.specs.BagLaws.{BagLaws}
+use Rattle.cep_term.specs.Multiset.{Multiset, count_of, with_one, gathered, gained, with_count}
 use Rattle.cep_rule.specs.declared.signature.Signature.{Signature}
 use Rattle.cep_rule.specs.declared.parts.Parts.{Parts}
 use Rattle.cep_rule.specs.Patterns.{PremiseTree}
-use Rattle.cep_log.specs.declared.log.LogStep.{LogStep}
+use Rattle.cep_rule.specs.Typing.{is_fact}
 use Rattle.cep_cause.specs.Tokens.{Token, numbered, has_number, staying, ArePicks, picked_to_go, token_atoms, listed_copies, start_tokens}
 use Rattle.cep_cause.specs.Touches.{Touch, present_after, IsTouch, AreTouches}
+use Rattle.cep_term.specs.Order.{atom_cmp}
 use Rattle.cep_cause.proofs.Distinct.{filter_cases, Differ, differ_both, filter_there, filter_differ, weigh_the_same}
-use Rattle.std.specs.List.{filter, sum_by, flat_map}
 use Rattle.std.proofs.lemmas.List.Sums.{sum_by-cons, sum_by-append}
-use Rattle.cep_term.specs.BagLaws.{BagLaws}
-use Rattle.cep_term.specs.Multiset.{Multiset, count_of, with_one, gathered, gained, with_count}
-use Rattle.cep_rule.specs.Typing.{is_fact}
-use Rattle.cep_rule.specs.Instances.{full_instances}
-use Rattle.std.specs.FinMap as finite
 use Rattle.std.specs.Ordering.{is_eq, eq_by_cmp}
 use Rattle.std.specs.Cmp.{tied_itself, Equal-is}
-use Rattle.cep_term.specs.Order.{atom_cmp}
+use Rattle.std.specs.FinMap as finite
 
 -- Which tokens are used, by the old order of the steps.
 
@@ -215,8 +215,6 @@ module _ (signature : Signature) (values : List Tree) (present : List Token) whe
         rest,
       )
   removes_differ used premises tokens picks = grind arith
-
--- Copies of an atom
 
 module _ (laws : BagLaws) (a : AtomTree) where
   -- 1 for a token of the atom, and 0 for others

@@ -1,34 +1,32 @@
 -- A legal log touches tokens, each step in one way.
 use Rattle.std.proofs.Common.{◌≡◌, ◌⊎◌, inl, inr, ⊎_elim, ℕ, ◌<◌, ◌≤◌, false, List, [], ◌∷◌, sym, ap, ◌∙◌, subst, arith, Contains, eqb-true, ◌+◌, length, Bool, true, ◌++◌, map, refl}
 use Rattle.std.proofs.lemmas.Bool.{eqb-false, false≢true}
-use Rattle.cep_base.proofs.Elements.{contains_none, contains_first, contains_behind, contains_cases, contains_same, map_cases, all_of}
+use Rattle.std.specs.Prelude.{is_some}
 use Rattle.cep_term.specs.Tree.{Tree, AtomTree, IsGroundAtom}
+use Rattle.cep_base.proofs.Elements.{contains_none, contains_first, contains_behind, contains_cases, contains_same, map_cases, all_of}
 use Rattle.cep_rule.specs.declared.signature.Signature.{Signature}
+use Rattle.cep_rule.specs.declared.rule.Rule.{Rule}
+use Rattle.cep_rule.specs.declared.parts.Parts.{Parts}
 use Rattle.cep_rule.specs.Patterns.{PremiseTree}
 use Rattle.cep_rule.specs.Typing.{is_fact}
 use Rattle.cep_rule.specs.Instances.{full_instance, full_instances, left_of, used_by}
-use Rattle.cep_cause.specs.CauseLaws.{CauseLaws}
-use Rattle.cep_cause.specs.Tokens.{Token, IsPick, ArePicks, numbered, token_state, staying, picked_to_go, listed_copies, start_tokens, token_atoms}
-use Rattle.cep_cause.proofs.Tokened.{one_or_two, start_counts, HaveOneNumber, one_after, numbered_one, numbered_differ, differ_after, goes_present, goes_differ, staying_counts, AreBelow, below_after, made_later, weight, weigh_tokens, numbered_atoms, removed_atoms}
-use Rattle.std.specs.Prelude.{is_some}
-use Rattle.cep_base.proofs.Lists.{some_same, holds_at}
-use Rattle.cep_term.specs.Multiset.{gained, Multiset, count_of, gathered, sum_of, difference_of, held, IsContained}
-use Rattle.cep_rule.specs.declared.rule.Rule.{Rule}
-use Rattle.cep_rule.specs.declared.parts.Parts.{Parts}
-use Rattle.cep_log.specs.declared.log.LogStep.{LogStep}
-use Rattle.cep_cause.specs.Touches.{Touch, present_after, IsTouch, AreTouches, present_after_all}
 use Rattle.cep_rule.specs.Binding.{needed_of}
 use Rattle.cep_rule.specs.Matching.{state_after}
 use Rattle.cep_rule.specs.State.{IsState}
+use Rattle.cep_cause.specs.CauseLaws.{CauseLaws}
+use Rattle.cep_cause.specs.Touches.{Touch, present_after, IsTouch, AreTouches, present_after_all}
+use Rattle.cep_cause.specs.Tokens.{Token, IsPick, ArePicks, numbered, token_state, staying, picked_to_go, listed_copies, start_tokens, token_atoms}
+use Rattle.cep_cause.proofs.Tokened.{one_or_two, start_counts, HaveOneNumber, one_after, numbered_one, numbered_differ, differ_after, goes_present, goes_differ, staying_counts, AreBelow, below_after, made_later, weight, weigh_tokens, numbered_atoms, removed_atoms}
+use Rattle.cep_base.proofs.Lists.{some_same, holds_at}
+use Rattle.cep_log.specs.declared.log.LogStep.{LogStep}
+use Rattle.cep_log.specs.Legal.{IsLegalStep, AreLegalSteps}
+use Rattle.cep_term.specs.Multiset.{gained, Multiset, count_of, gathered, sum_of, difference_of, held, IsContained}
 use Rattle.cep_rule.specs.Steps.{Spot, start_spot}
 use Rattle.cep_rule.specs.Program.{IsTypedRule, IsDividedRule, IsProgram}
-use Rattle.cep_log.specs.Legal.{IsLegalStep, AreLegalSteps}
 use Rattle.cep_cause.proofs.Distinct.{Differ, weighs_less_if}
 use Rattle.cep_cause.proofs.StatesAfter.{own_weight, other_weight}
 
 -- The token that is picked: there is one, and one only.
-
--- One only
 
 one_pick : (signature : Signature) (present used : List Token) (a : AtomTree) (one other : Token) → HaveOneNumber present → IsPick signature present used a one → IsPick signature present used a other → one ≡ other
 one_pick signature present used a one other number is is' = rw (number one other is.can.there is'.can.there (let less = is.least other is'.can in let more = is'.least one is.can in omega arith))
@@ -39,8 +37,6 @@ one_picks signature values present used (premise ∷ premises) (one ∷ ones) (o
     let same = one_pick signature present used (full_instance values premise.atom) one other number are.0 are'.0 in
     ap (λ (t : Token). t ∷ ones) same ∙ ap (λ rest. other ∷ rest) (one_picks signature values present (other ∷ used) premises ones others number (subst (λ (t : Token). ArePicks signature values present (t ∷ used) premises ones) same are.1) are'.1)
 one_picks signature values present used premises ones others number are are' = grind arith
-
--- There is one
 
 -- Of tokens with a property one has the least number, or there is none.
 record IsLeast (P : Token → Type 0) (tokens : List Token) : Type 0 where

@@ -1,35 +1,35 @@
 -- A walk over the steps of a legal log in an order.
 use Rattle.std.proofs.Common.{◌≡◌, ◌⊎◌, inl, inr, ⊎_elim, ℕ, ◌+◌, ◌<◌, ◌≤◌, List, [], ◌∷◌, ◌++◌, map, append_assoc, append-nil, refl, sym, ap, ◌∙◌, subst, arith, zero, suc, ◌-◌, length, take, drop, Some, Contains}
 use Rattle.cep_term.specs.Multiset.{Multiset}
+use Rattle.std.proofs.lemmas.Grind.{common_steps}
+use Rattle.std.proofs.lemmas.List.{map-append}
+use Rattle.std.specs.Prelude.{slice_get, unwrap_or}
 use Rattle.cep_rule.specs.declared.parts.Parts.{Parts}
+use Rattle.cep_rule.specs.declared.rule.Rule.{Rule}
 use Rattle.cep_rule.specs.State.{Fits}
 use Rattle.cep_rule.specs.Steps.{Spot, start_spot, MakesFit}
 use Rattle.cep_rule.specs.Program.{IsProgram}
+use Rattle.cep_rule.specs.Step.{Step}
 use Rattle.cep_log.specs.declared.log.Log.{Log}
 use Rattle.cep_log.specs.declared.log.LogStep.{LogStep}
 use Rattle.cep_log.specs.Legal.{IsLegalStep, AreLegalSteps, IsLegal, IsStepOf}
 use Rattle.cep_cause.specs.CauseLaws.{CauseLaws}
 use Rattle.cep_cause.specs.Touches.{Touch, AreTouchesOf}
 use Rattle.cep_cause.specs.Reorderings.{IsReordering, IsOrder, step_places}
+use Rattle.cep_cause.specs.Renewing.{CanBePut}
 use Rattle.cep_cause.specs.Reordered.{StandAt, unlisted, IsUnfitAt, IsUnfitIn, AreLegalIn}
+use Rattle.cep_cause.specs.StepwiseLaws.{StepwiseLaws}
 use Rattle.cep_cause.proofs.Ordered.{is_next}
 use Rattle.cep_cause.proofs.Central.{IsReached, reached_none, IsTurn, reached_more, all_reached, as_written, rule_of, leads_to, step_there, legal_there, contained, one_spot, at_within, stand, stand_long, not_longer}
 use Rattle.cep_cause.proofs.StatesAfter.{LegalRun, as_long}
-use Rattle.std.proofs.lemmas.Grind.{common_steps}
-use Rattle.std.specs.Prelude.{slice_get, unwrap_or}
-use Rattle.std.proofs.lemmas.List.{map-append}
+use Rattle.cep_cause.proofs.WrittenOrder.{length_map, stand_both, whole}
+use Rattle.cep_cause.specs.Walking.{CanGo, GoesTo, GoesOut}
 use Rattle.cep_base.proofs.Lists.{none_some, some_same, holds_at, take_next, get_mapped}
 use Rattle.cep_base.proofs.Elements.{contains_right, contains_behind}
-use Rattle.cep_rule.specs.declared.rule.Rule.{Rule}
-use Rattle.cep_rule.specs.Step.{Step}
 use Rattle.cep_step.specs.declared.limit.Limit.{Limit}
 use Rattle.cep_step.specs.declared.limit.Limit.TheVariants.{Atom, State}
 use Rattle.cep_step.specs.Passing.{Passes}
 use Rattle.cep_step.specs.Spots.{IsSpotOf}
-use Rattle.cep_cause.specs.Renewing.{CanBePut}
-use Rattle.cep_cause.specs.StepwiseLaws.{StepwiseLaws}
-use Rattle.cep_cause.specs.Walking.{CanGo, GoesTo, GoesOut}
-use Rattle.cep_cause.proofs.WrittenOrder.{length_map, stand_both, whole}
 
 -- A legal log in another order: its steps are legal to the same last spot, or one of them is the first that leads to a state that does not fit.
 
@@ -104,8 +104,6 @@ pub goes_out : (program : Parts) (step : LogStep) (rule : Rule) (state : Multise
     → Passes program.signature rule step.offer.values state limit → GoesOut program step state
 goes_out program step rule state Atom numbered can passes = absurd (passes (subst (λ (rule : Rule). MakesFit rule step.offer.values) (some_same can.rule rule (sym can.numbered ∙ numbered)) can.fit))
 goes_out program step rule state State numbered can passes = record { rule = rule; numbered = numbered; new = passes.1.0; leads = passes.1.1; unfit = passes.1.2 }
-
--- Places
 
 cut_at : (places : List ℕ) (i place : ℕ) → slice_get places i ≡ Some place → places ≡ take i places ++ (place ∷ drop (suc i) places)
 cut_at [] i place at = none_some place at

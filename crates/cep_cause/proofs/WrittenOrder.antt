@@ -4,38 +4,36 @@ use Rattle.std.proofs.lemmas.Grind.{common_steps}
 use Rattle.std.specs.Prelude.{slice_get, ◌↔◌, IsTrue}
 use Rattle.std.specs.List.{AllByRecursion, AllZip, range_with_len}
 use Rattle.cep_base.proofs.Lists.{some_same, all_mapped, all_from_places, holds_at, get_mapped, none_some}
+use Rattle.cep_base.proofs.Drops.{drop_at}
 use Rattle.cep_base.proofs.Elements.{contains_none, contains_cases, contains_same, contains_behind, contains_at, all_of}
 use Rattle.cep_rule.specs.declared.parts.Parts.{Parts}
 use Rattle.cep_rule.specs.Steps.{start_spot, Spot}
+use Rattle.cep_rule.specs.Program.{IsProgram}
+use Rattle.cep_step.specs.Spots.{IsSpotOf}
 use Rattle.cep_lines.specs.declared.version.Version.TheVariants.{One}
+use Rattle.cep_lines.specs.Lines.{header}
+use Rattle.std.proofs.lemmas.Bool.{false≢true}
+use Rattle.std.proofs.lemmas.List.{drop_all}
 use Rattle.cep_log.specs.declared.log.Log.{Log}
 use Rattle.cep_log.specs.declared.log.LogStep.{LogStep}
 use Rattle.cep_log.specs.Legal.{IsStepOf, HaveListings, AreLegalSteps, IsLegal, IsLegalStep}
 use Rattle.cep_log.specs.Written.{DoTheSame, EndTheSame, IsRenewal, text_of}
+use Rattle.cep_base.specs.declared.limits.TheConstants.{MOST_LOG}
 use Rattle.cep_cause.specs.Touches.{Touch, AreTouchesOf}
 use Rattle.cep_cause.specs.Tokens.{start_tokens}
-use Rattle.cep_cause.specs.Reorderings.{Precedes, Respects, IsReordering, step_places, IsOrder, AreNumbersWithin}
-use Rattle.cep_cause.specs.Reordered.{StandAt, written_places, unlisted, AreUnlistedSteps, IsInOrder, AreLegalIn, IsRenewalIn, IsTextIn, IsTooLongIn, with_steps, IsUnfitAt, IsUnfitIn, ComesTo, IsWrittenOrder}
 use Rattle.cep_cause.specs.Renewed.{IsRenewedText, IsTooLongRenewed}
-use Rattle.cep_cause.proofs.StatesAfter.{as_many}
-use Rattle.cep_cause.proofs.Central.{stand_all, stand_long, not_longer, legal_or_unfit, one_unfit}
 use Rattle.cep_cause.specs.CauseLaws.{CauseLaws}
+use Rattle.cep_cause.specs.Reorderings.{Precedes, Respects, IsReordering, step_places, IsOrder, AreNumbersWithin}
+use Rattle.cep_cause.proofs.StatesAfter.{as_many}
+use Rattle.cep_cause.specs.Reordered.{StandAt, written_places, unlisted, AreUnlistedSteps, IsInOrder, AreLegalIn, IsRenewalIn, IsTextIn, IsTooLongIn, with_steps, IsUnfitAt, IsUnfitIn, ComesTo, IsWrittenOrder}
+use Rattle.cep_cause.proofs.Central.{stand_all, stand_long, not_longer, legal_or_unfit, one_unfit}
 use Rattle.cep_cause.specs.declared.reordered.Reordered.{Reordered}
 use Rattle.cep_cause.specs.declared.reordered.Reordered.TheVariants.{Done, Unfit, TooLong}
-use Rattle.std.proofs.lemmas.Bool.{false≢true}
-use Rattle.std.proofs.lemmas.List.{drop_all}
-use Rattle.cep_base.specs.declared.limits.TheConstants.{MOST_LOG}
-use Rattle.cep_base.proofs.Drops.{drop_at}
-use Rattle.cep_rule.specs.Program.{IsProgram}
-use Rattle.cep_step.specs.Spots.{IsSpotOf}
-use Rattle.cep_lines.specs.Lines.{header}
-use Rattle.cep_cause.specs.Renewing.{renewed_lines, last_lines, LeadsTo, IsRenewingAt}
 use Rattle.cep_cause.specs.StepwiseLaws.{StepwiseLaws}
+use Rattle.cep_cause.specs.Renewing.{renewed_lines, last_lines, LeadsTo, IsRenewingAt}
 use Rattle.cep_cause.specs.Walking.{GoesTo, WritesUnlessLong, log_of, IsToldAt, IsToldIn}
 
 -- A legal log in an order is a legal log; what it is renewed to is the old one renewed in the order; and the written order is one of the orders.
-
--- In an order
 
 no_listings : (number : ℕ) (steps : List LogStep) → HaveListings One number (map unlisted steps)
 no_listings number [] = tt
@@ -137,8 +135,6 @@ text_in_order program log places other text is renewed = record { new = renewed.
 
 pub too_long_in_order : (program : Parts) (log : Log) (places : List ℕ) (other : Log) → IsInOrder log places other → IsTooLongRenewed program other → IsTooLongIn program places log
 too_long_in_order program log places other is long = record { new = long.new; renews = renewed_in_order program log places other long.new is long.renews; long = long.long }
-
--- The written order
 
 module _ {X : Type 0} where
   stand_from : (all xs : List X) (place : ℕ) → ((i : ℕ) → slice_get xs i ≡ slice_get all (place + i)) → StandAt all (written_places place xs) xs

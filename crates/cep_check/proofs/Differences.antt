@@ -1,53 +1,49 @@
 -- The first difference of a listing and a state is one, and a log that is refused is not legal.
-use Rattle.std.proofs.Common.{◌≡◌, ◌⊎◌, inl, inr, ⊎_elim, ℕ, zero, suc, ◌+◌, ◌-◌, ◌<◌, ◌≤◌, List, [], ◌∷◌, length, Some, Contains, refl, sym, ap, subst, ◌∙◌, arith, Less, Equal, Greater, None, take}
+use Rattle.std.proofs.Common.{◌≡◌, ◌⊎◌, inl, inr, ⊎_elim, ℕ, zero, suc, ◌-◌, ◌<◌, ◌≤◌, List, [], ◌∷◌, length, Some, refl, sym, ap, subst, ◌∙◌, arith, Less, Equal, Greater, None, take}
 use Rattle.std.specs.Prelude.{slice_get, Option, IfSome, IsSomeAnd}
 use Rattle.std.specs.Ordering.{ordering_reverse}
 use Rattle.std.specs.FinMap.{len-entries}
-use Rattle.std.specs.FinMap as finite
-use Rattle.std.proofs.lemmas.Bool.{eqb-true, eqb-false}
 use Rattle.std.proofs.lemmas.Cmp.{tied_itself}
+use Rattle.std.proofs.lemmas.Bool.{eqb-true, eqb-false}
 use Rattle.std.proofs.lemmas.Option.{slice_get_within}
+use Rattle.std.specs.Cmp.{IsTotalOrder}
+use Rattle.cep_scratch.specs.First.{IsFirstOffer}
 use borrow.Author.Tests.{ltb-true, ltb-false}
-use Rattle.cep_base.proofs.Elements.{contains_none, contains_cases, contains_at}
+use Rattle.cep_base.proofs.Elements.{contains_at}
 use Rattle.cep_base.proofs.Lists.{some_same, holds_at}
 use Rattle.cep_term.specs.BagLaws.{BagLaws}
 use Rattle.cep_term.specs.Tree.{AtomTree, Tree, atom_of}
 use Rattle.cep_term.specs.Order.{atom_cmp}
 use Rattle.cep_term.specs.Multiset.{Multiset, count_of, IsContained}
 use Rattle.cep_rule.specs.declared.signature.Signature.{Signature}
-use Rattle.cep_log.specs.Legal.{AtomsRise, IsListing, IsHave, IsLegalStep, AreLegalSteps, IsLegalEnd, IsLegal}
-use Rattle.cep_check.specs.Causes.{ListsCount, IsFirstDifference, IsFirstLack, IsStartCause, IsStepCause, IsEndCause, IsRefusedFrom, IsLogRefused, IsAtPremise, IsFirstAsked}
-use Rattle.cep_check.specs.Places.{Agree, AgreeBelow}
 use Rattle.cep_rule.specs.declared.rule.Rule.{Rule}
 use Rattle.cep_rule.specs.declared.parts.Parts.{Parts}
 use Rattle.cep_rule.specs.Instances.{full_instances, left_of}
+use Rattle.cep_log.specs.Legal.{AtomsRise, IsListing, IsHave, IsLegalStep, AreLegalSteps, IsLegalEnd, IsLegal}
+use Rattle.cep_log.specs.declared.log.Log.{Log}
+use Rattle.cep_check.specs.Causes.{ListsCount, IsFirstDifference, IsFirstLack, IsStartCause, IsStepCause, IsEndCause, IsRefusedFrom, IsLogRefused, IsAtPremise, IsFirstAsked}
+use Rattle.cep_check.specs.Places.{Agree, AgreeBelow}
+use Rattle.cep_check.specs.declared.cause.Cause.{Cause}
+use Rattle.cep_step.specs.declared.limit.Limit.TheVariants.{Atom, State}
 use Rattle.cep_rule.specs.Derivations.{ProofTree, Proves, proof_height}
 use Rattle.cep_rule.specs.State.{Fits}
 use Rattle.cep_rule.specs.Stages.{own_group, leaving_group}
 use Rattle.cep_rule.specs.Step.{Step}
+use Rattle.cep_rule.specs.Offers.{offer_cmp}
 use Rattle.cep_rule.specs.Steps.{Spot, AreProofs, IsMachineStep, stage_after}
-use Rattle.cep_log.specs.declared.log.Log.{Log}
+use Rattle.cep_rule.specs.declared.offer.Offer.{Offer}
 use Rattle.cep_log.specs.declared.log.LogStep.{LogStep}
 use Rattle.cep_log.specs.declared.log.LogMid.{LogMid}
 use Rattle.cep_log.specs.declared.log.LogEnd.{LogEnd}
-use Rattle.cep_step.specs.declared.limit.Limit.TheVariants.{Atom, State}
-use Rattle.cep_check.specs.declared.cause.Cause.{Cause}
 use Rattle.cep_check.specs.declared.cause.Cause.TheVariants.{StartStage, StartState, OtherStage, NotContained, NotProved, TooHigh, NotQuiet, OverLimit, StageLine, MidState, NotEnded, EndState}
-use Rattle.std.specs.Cmp.{IsTotalOrder}
-use Rattle.cep_rule.specs.declared.offer.Offer.{Offer}
-use Rattle.cep_rule.specs.Offers.{offer_cmp}
-use Rattle.cep_scratch.specs.First.{IsFirstOffer}
+use Rattle.std.specs.FinMap as finite
+pub use Rattle.cep_base.proofs.Options.{place_in}
 
 -- The first atom of which a listing says another count than a state has, and the first that lacks.
 
 -- a place of a listing is before, at or after another
 pub three_ways : (i j : ℕ) → (i < j) ⊎ ((i ≡ j) ⊎ (j < i))
 three_ways i j = grind (arith, ltb-true, eqb-true, ltb-false, eqb-false)
-
--- an element has a place
-pub place_in : (xs : List (AtomTree × ℕ)) (x : AtomTree × ℕ) → Contains xs x → (i : ℕ) × (slice_get xs i ≡ Some x)
-place_in [] x there = absurd (contains_none x there)
-place_in (first ∷ xs) x there = elim (contains_cases first xs x there) [ inl same ↦ (0, ap Some same) | inr later ↦ (let at = place_in xs x later in (suc at.0, at.1)) ]
 
 -- Atoms rise from place to place.
 abbrev Rises : List (AtomTree × ℕ) → Type 0
@@ -179,9 +175,6 @@ abbrev pub EnoughBelow : ℕ → Multiset → Multiset → Type 0
 EnoughBelow places needed state = (place : ℕ) (a : AtomTree) (m : ℕ) → place < places → slice_get (finite.entries needed) place ≡ Some (a, m) → m ≤ count_of state a
 
 module _ (laws : BagLaws) (needed state : Multiset) where
-  pub enough_more : (n : ℕ) (x : AtomTree) (m : ℕ) → slice_get (finite.entries needed) n ≡ Some (x, m) → m ≤ count_of state x → EnoughBelow n needed state → EnoughBelow (n + 1) needed state
-  enough_more n x m at enough below = grind (arith, some_same, eqb-true, eqb-false)
-
   enough_of : (n : ℕ) → EnoughBelow n needed state → (a : AtomTree) → ((j : ℕ) (m : ℕ) → n ≤ j → slice_get (finite.entries needed) j ≡ Some (a, m) → ⊥) → count_of needed a ≤ count_of state a
   enough_of n below a none = grind (arith, ltb-true, three_ways, ltb-false, laws.entry_there)
 
@@ -218,11 +211,8 @@ module _ (laws : BagLaws) (one : LeadsToOne) (needs : NeedsLeft) (program : Part
   says_count : (state : Multiset) (a : AtomTree) (n : ℕ) → ListsCount (finite.entries state) a n → n ≡ count_of state a
   says_count state a n says = ⊎_elim
       (λ there. let at = place_in (finite.entries state) (a, n) there in sym (laws.entry_counted state at.0 a n at.1))
-      (λ none. none.0 ∙ no_entry laws state a (λ j m at. none.1 m (contains_there (finite.entries state) j (a, m) at)))
+      (λ none. none.0 ∙ no_entry laws state a (λ j m at. none.1 m (contains_at (finite.entries state) j (a, m) at)))
       says
-    where
-      contains_there : (xs : List (AtomTree × ℕ)) (i : ℕ) (x : AtomTree × ℕ) → slice_get xs i ≡ Some x → Contains xs x
-      contains_there xs i x at = contains_at xs i x at
 
   no_difference : (listing : List (AtomTree × ℕ)) (state : Multiset) (atom : AtomTree) (said is : ℕ) → listing ≡ finite.entries state → IsFirstDifference listing state atom said is → ⊥
   no_difference listing state atom said is same differs =

@@ -1,32 +1,32 @@
 -- A log, and a step of it, are refused for one cause at one line.
-use Rattle.std.proofs.Common.{◌≡◌, ℕ, zero, suc, ◌+◌, ◌-◌, ◌<◌, List, ◌++◌, codes, decimal, Option, sym, ap, subst, ◌∙◌, arith, ⊎_elim, [], ◌∷◌, Some, None, refl}
+use Rattle.std.proofs.Common.{◌≡◌, ◌==◌, false, eq-eqb, ℕ, zero, suc, ◌+◌, ◌-◌, ◌<◌, List, ◌++◌, codes, decimal, Option, sym, ap, subst, ◌∙◌, arith, ⊎_elim, [], ◌∷◌, Some, None, refl}
 use Rattle.std.specs.Prelude.{slice_get, IfSome}
+use Rattle.std.specs.List.{AllByRecursion}
 use Rattle.cep_base.proofs.Lists.{some_same}
 use Rattle.cep_term.specs.BagLaws.{BagLaws}
 use Rattle.cep_term.specs.Tree.{AtomTree, atom_of}
 use Rattle.cep_term.specs.Multiset.{Multiset}
+use Rattle.cep_text.specs.Texts.{offer_name, offer_text}
 use Rattle.cep_rule.specs.declared.rule.Rule.{Rule}
 use Rattle.cep_rule.specs.declared.parts.Parts.{Parts}
 use Rattle.cep_rule.specs.declared.offer.Offer.{Offer}
 use Rattle.cep_rule.specs.Instances.{full_instances, left_of}
-use Rattle.cep_rule.specs.Derivations.{ProofTree, Proves, proof_height}
 use Rattle.cep_rule.specs.Stages.{own_group}
+use Rattle.cep_rule.specs.Derivations.{ProofTree, Proves, proof_height}
 use Rattle.cep_rule.specs.State.{Fits}
 use Rattle.cep_rule.specs.Steps.{Spot, MakesFit, start_spot}
-use Rattle.cep_text.specs.Texts.{offer_name, offer_text}
 use Rattle.cep_log.specs.declared.log.LogStep.{LogStep}
 use Rattle.cep_log.specs.declared.log.LogMid.{LogMid}
-use Rattle.cep_log.specs.Legal.{IsListing, AtomsRise, IsStepOf, IsLogOf}
-use Rattle.cep_step.specs.declared.limit.Limit.TheVariants.{Atom, State}
-use Rattle.cep_check.specs.declared.cause.Cause.{Cause}
-use Rattle.cep_check.specs.declared.cause.Cause.TheVariants.{StartStage, StartState, OtherStage, NotContained, NotProved, TooHigh, NotQuiet, OverLimit, StageLine, MidState, NotEnded, EndState}
-use Rattle.cep_check.specs.Causes.{IsOfStage, IsFirstDifference, IsAtPremise, CanTake, IsProvedStep, IsInTurn, IsWithinLimits, IsStaged, IsStepCause, cause_line, IsFirstAsked, IsTrulyQuiet, IsStartCause, IsEndCause, IsRefusedFrom, IsLogRefused}
-use Rattle.cep_check.specs.Telling.{stages_text, counts_text, cause_text}
-use Rattle.cep_check.proofs.Differences.{three_ways, OffersOrdered, first_offer_once, Fails, fails_once, difference_once, lack_once, first_asked_once, LeadsToOne, NeedsLeft, proofs_at, step_clash, one_spot, start_clash}
-use Rattle.std.specs.List.{AllByRecursion}
-use Rattle.cep_lines.specs.declared.end_word.EndWord.TheVariants.{Quiet}
 use Rattle.cep_log.specs.declared.log.Log.{Log}
 use Rattle.cep_log.specs.declared.log.LogEnd.{LogEnd}
+use Rattle.cep_log.specs.Legal.{IsListing, AtomsRise, IsStepOf, IsLogOf}
+use Rattle.cep_step.specs.declared.limit.Limit.TheVariants.{Atom, State}
+use Rattle.cep_lines.specs.declared.end_word.EndWord.TheVariants.{Quiet}
+use Rattle.cep_check.specs.declared.cause.Cause.{Cause}
+use Rattle.cep_check.specs.Telling.{stages_text, counts_text, cause_text}
+use Rattle.cep_check.specs.declared.cause.Cause.TheVariants.{StartStage, StartState, OtherStage, NotContained, NotProved, TooHigh, NotQuiet, OverLimit, StageLine, MidState, NotEnded, EndState}
+use Rattle.cep_check.specs.Causes.{IsOfStage, IsFirstDifference, CanTake, IsProvedStep, IsInTurn, IsWithinLimits, IsStaged, IsStepCause, cause_line, IsFirstAsked, IsTrulyQuiet, IsStartCause, IsEndCause, IsRefusedFrom, IsLogRefused}
+use Rattle.cep_check.proofs.Differences.{three_ways, OffersOrdered, first_offer_once, Fails, fails_once, difference_once, lack_once, first_asked_once, LeadsToOne, NeedsLeft, proofs_at, step_clash, one_spot, start_clash}
 
 -- A step is refused for one cause at one line.
 
@@ -113,64 +113,53 @@ module _ (laws : BagLaws) (order : OffersOrdered) (one : LeadsToOne) (needs : Ne
     as_many_tests : (cause other : Cause) → IsStepCause program height old rule step cause → IsStepCause program height old rule step other → tests cause ≡ tests other
     as_many_tests cause other comes comes' = grind (arith, no_fewer cause other comes comes', no_fewer other cause comes' comes, three_ways (tests cause) (tests other))
 
+    other_count : {P : Type 0} (n m : ℕ) → (n == m) ≡ false → n ≡ m → P
+    other_count n m differ same = grind (arith, eq-eqb)
+
     unproved_fails : (proof : ProofTree) (goal : AtomTree) → (¬ Proves program proof goal) → Fails program height proof goal
     unproved_fails proof goal not = λ ok. not ok.0
 
     high_fails : (proof : ProofTree) (goal : AtomTree) (high : ℕ) → high ≡ proof_height proof → height < high → Fails program height proof goal
     high_fails proof goal high is above = λ ok. let low = ok.1 in omega arith
 
-    proved_and_not : {P : Type 0} (place place' : ℕ) (proof proof' : ProofTree) (goal goal' : AtomTree) (at : IsAtPremise program height step.proofs goals place proof goal) (at' : IsAtPremise program height step.proofs goals place' proof' goal') → at.before ≡ at'.before → (¬ Proves program proof goal) → Proves program proof' goal' → P
-    proved_and_not place place' proof proof' goal goal' at at' same not proves = grind (arith, some_same, at'.derivation, step.proofs, at.derivation, at'.premise, at.premise)
+    -- what is not proved is not too high
+    proved_or_high : {P : Type 0} (place place' high : ℕ) (comes : IsStepCause program height old rule step (NotProved place)) (comes' : IsStepCause program height old rule step (TooHigh place' high)) → P
+    proved_or_high place place' high comes comes' =
+        let here = fails_once program height step.proofs goals place place' comes.1.0 comes'.1.0 comes.1.1 comes'.1.1 comes.1.2 comes'.1.2 (unproved_fails comes.1.0 comes.1.1 comes.1.3) (high_fails comes'.1.0 comes'.1.1 high comes'.1.4 comes'.1.5) in
+        grind (arith, here, some_same, comes'.1.2.derivation, step.proofs, comes.1.2.derivation, comes'.1.2.premise, comes.1.2.premise, comes.1.3, comes'.1.3)
 
-    other_stage_alike : (number : ℕ) (comes : IsStepCause program height old rule step (OtherStage number)) (other : Cause) → IsStepCause program height old rule step other → 0 ≡ tests other → AreToldAlike program (OtherStage number) other
-    other_stage_alike number comes (OtherStage number') comes' same = ap (λ n. codes "OtherStage " ++ offer_name (slice_get program.rules n)) (comes.0 ∙ sym comes'.0)
-    other_stage_alike number comes other comes' same = grind (arith, same)
-
-    lack_alike : (atom : _) (have need : ℕ) (comes : IsStepCause program height old rule step (NotContained atom have need)) (other : Cause) → IsStepCause program height old rule step other → 1 ≡ tests other → AreToldAlike program (NotContained atom have need) other
-    lack_alike atom have need comes (NotContained atom' have' need') comes' same =
+    -- two causes of a step that pass as many tests are told alike
+    told_alike : (cause other : Cause) → IsStepCause program height old rule step cause → IsStepCause program height old rule step other → tests cause ≡ tests other → (tests cause ≡ 7 → ⊥) → AreToldAlike program cause other
+    told_alike (OtherStage number) (OtherStage number') comes comes' same apart = ap (λ n. codes "OtherStage " ++ offer_name (slice_get program.rules n)) (comes.0 ∙ sym comes'.0)
+    told_alike (NotContained atom have need) (NotContained atom' have' need') comes comes' same apart =
         counts_alike (codes "NotContained have ") (codes " need ") have have' need need' (atom_of atom) (atom_of atom')
         (lack_once laws (left_of program.signature rule step.offer.values) old.state (atom_of atom) (atom_of atom') have have' need need' comes.1 comes'.1)
-    lack_alike atom have need comes other comes' same = grind (arith, same)
-
-    unproved_alike : (place : ℕ) (comes : IsStepCause program height old rule step (NotProved place)) (other : Cause) → IsStepCause program height old rule step other → 2 ≡ tests other → AreToldAlike program (NotProved place) other
-    unproved_alike place comes (NotProved place') comes' same =
+    told_alike (NotProved place) (NotProved place') comes comes' same apart =
         let at = comes.1.2 in
         let at' = comes'.1.2 in
         let here = fails_once program height step.proofs goals place place' comes.1.0 comes'.1.0 comes.1.1 comes'.1.1 at at' (unproved_fails comes.1.0 comes.1.1 comes.1.3) (unproved_fails comes'.1.0 comes'.1.1 comes'.1.3) in
         ap (λ n. codes "NotProved " ++ decimal n) (at.counted ∙ ap (λ n. n + 1) here ∙ sym at'.counted)
-    unproved_alike place comes (TooHigh place' high') comes' same =
-        proved_and_not place place' comes.1.0 comes'.1.0 comes.1.1 comes'.1.1 comes.1.2 comes'.1.2
-        (fails_once program height step.proofs goals place place' comes.1.0 comes'.1.0 comes.1.1 comes'.1.1 comes.1.2 comes'.1.2 (unproved_fails comes.1.0 comes.1.1 comes.1.3) (high_fails comes'.1.0 comes'.1.1 high' comes'.1.4 comes'.1.5))
-        comes.1.3 comes'.1.3
-    unproved_alike place comes other comes' same = grind (arith, same)
-
-    high_alike : (place high : ℕ) (comes : IsStepCause program height old rule step (TooHigh place high)) (other : Cause) → IsStepCause program height old rule step other → 2 ≡ tests other → AreToldAlike program (TooHigh place high) other
-    high_alike place high comes (NotProved place') comes' same =
-        proved_and_not place' place comes'.1.0 comes.1.0 comes'.1.1 comes.1.1 comes'.1.2 comes.1.2
-        (fails_once program height step.proofs goals place' place comes'.1.0 comes.1.0 comes'.1.1 comes.1.1 comes'.1.2 comes.1.2 (unproved_fails comes'.1.0 comes'.1.1 comes'.1.3) (high_fails comes.1.0 comes.1.1 high comes.1.4 comes.1.5))
-        comes'.1.3 comes.1.3
-    high_alike place high comes (TooHigh place' high') comes' same =
+    told_alike (NotProved place) (TooHigh place' high') comes comes' same apart = proved_or_high place place' high' comes comes'
+    told_alike (TooHigh place high) (NotProved place') comes comes' same apart = proved_or_high place' place high comes' comes
+    told_alike (TooHigh place high) (TooHigh place' high') comes comes' same apart =
         let at = comes.1.2 in
         let at' = comes'.1.2 in
         let here = fails_once program height step.proofs goals place place' comes.1.0 comes'.1.0 comes.1.1 comes'.1.1 at at' (high_fails comes.1.0 comes.1.1 high comes.1.4 comes.1.5) (high_fails comes'.1.0 comes'.1.1 high' comes'.1.4 comes'.1.5) in
         let one_proof : comes.1.0 ≡ comes'.1.0 = some_same comes.1.0 comes'.1.0 (sym at.derivation ∙ ap (slice_get step.proofs) here ∙ at'.derivation) in
         ap (λ n. codes "TooHigh " ++ decimal n ++ codes " " ++ decimal high) (at.counted ∙ ap (λ n. n + 1) here ∙ sym at'.counted)
         ∙ ap (λ n. codes "TooHigh " ++ decimal place' ++ codes " " ++ decimal n) (comes.1.4 ∙ ap proof_height one_proof ∙ sym comes'.1.4)
-    high_alike place high comes other comes' same = grind (arith, same)
-
-    not_quiet_alike : (offer : Offer) (comes : IsStepCause program height old rule step (NotQuiet offer)) (other : Cause) → IsStepCause program height old rule step other → 3 ≡ tests other → AreToldAlike program (NotQuiet offer) other
-    not_quiet_alike offer comes (NotQuiet offer') comes' same = ap (λ o. codes "NotQuiet " ++ offer_text program o) (first_offer_once order program height old.state (own_group old.stage) offer offer' comes.2 comes'.2)
-    not_quiet_alike offer comes other comes' same = grind (arith, same)
-
-    atom_limit_alike : (comes : IsStepCause program height old rule step (OverLimit Atom)) (other : Cause) → IsStepCause program height old rule step other → 4 ≡ tests other → AreToldAlike program (OverLimit Atom) other
-    atom_limit_alike comes other comes' same = grind arith
-
-    state_limit_alike : (comes : IsStepCause program height old rule step (OverLimit State)) (other : Cause) → IsStepCause program height old rule step other → 5 ≡ tests other → AreToldAlike program (OverLimit State) other
-    state_limit_alike comes other comes' same = grind arith
-
-    stage_line_alike : (said is : ℕ) (comes : IsStepCause program height old rule step (StageLine said is)) (other : Cause) → IsStepCause program height old rule step other → 6 ≡ tests other → AreToldAlike program (StageLine said is) other
-    stage_line_alike said is comes (StageLine said' is') comes' same = stages_alike (codes "StageLine said ") said said' is is' (some_same said said' (sym comes.1 ∙ comes'.1)) (some_same is is' (sym comes.2 ∙ comes'.2))
-    stage_line_alike said is comes other comes' same = grind (arith, same)
+    told_alike (NotQuiet offer) (NotQuiet offer') comes comes' same apart = ap (λ o. codes "NotQuiet " ++ offer_text program o) (first_offer_once order program height old.state (own_group old.stage) offer offer' comes.2 comes'.2)
+    told_alike (OverLimit Atom) (OverLimit Atom) comes comes' same apart = refl
+    told_alike (OverLimit State) (OverLimit State) comes comes' same apart = refl
+    told_alike (StageLine said is) (StageLine said' is') comes comes' same apart = stages_alike (codes "StageLine said ") said said' is is' (some_same said said' (sym comes.1 ∙ comes'.1)) (some_same is is' (sym comes.2 ∙ comes'.2))
+    told_alike (MidState line atom said is) other comes comes' same apart = absurd (apart refl)
+    told_alike (StartStage said is) other comes comes' same apart = absurd comes
+    told_alike (StartState atom said is) other comes comes' same apart = absurd comes
+    told_alike NotEnded other comes comes' same apart = absurd comes
+    told_alike (EndState atom said is) other comes comes' same apart = absurd comes
+    told_alike cause (OverLimit Atom) comes comes' same apart = other_count (tests cause) 4 refl same
+    told_alike cause (OverLimit State) comes comes' same apart = other_count (tests cause) 5 refl same
+    told_alike cause other comes comes' same apart = other_count (tests cause) (tests other) refl same
 
     -- the line of every cause but that of a listing is that of the step
     own_line : (cause : Cause) → (tests cause ≡ 7 → ⊥) → step.line ≡ cause_line step cause
@@ -196,31 +185,17 @@ module _ (laws : BagLaws) (order : OffersOrdered) (one : LeadsToOne) (needs : Ne
                 (difference_once laws other.0.state lists.rising comes'.0 (atom_of atom) (atom_of atom') said said' is is' first other.3),
           )
 
-      mid_alike : (line : ℕ) (atom : _) (said is : ℕ) (comes : IsStepCause program height old rule step (MidState line atom said is)) (other : Cause) → IsStepCause program height old rule step other → 7 ≡ tests other → AreAlike (MidState line atom said is) other
-      mid_alike line atom said is comes (MidState line' atom' said' is') comes' same = both_mid line line' atom atom' said said' is is' comes comes'
-      mid_alike line atom said is comes other comes' same = grind (arith, same)
-
       pub step_alike : (cause other : Cause) → IsStepCause program height old rule step cause → IsStepCause program height old rule step other → AreAlike cause other
-      step_alike cause other comes comes' = by cause comes (as_many_tests cause other comes comes')
+      step_alike cause other comes comes' = by cause other comes comes' (as_many_tests cause other comes comes')
         where
-          -- at the step's line
-          at_step : (n : ℕ) → (n ≡ 7 → ⊥) → n ≡ tests other → step.line ≡ cause_line step other
-          at_step n apart same = own_line other (λ seven. apart (same ∙ seven))
-
-          by : (cause : Cause) → IsStepCause program height old rule step cause → tests cause ≡ tests other → AreAlike cause other
-          by (OtherStage number) comes same = (at_step 0 (λ e. omega (arith, e)) same, other_stage_alike number comes other comes' same)
-          by (NotContained atom have need) comes same = (at_step 1 (λ e. omega (arith, e)) same, lack_alike atom have need comes other comes' same)
-          by (NotProved place) comes same = (at_step 2 (λ e. omega (arith, e)) same, unproved_alike place comes other comes' same)
-          by (TooHigh place high) comes same = (at_step 2 (λ e. omega (arith, e)) same, high_alike place high comes other comes' same)
-          by (NotQuiet offer) comes same = (at_step 3 (λ e. omega (arith, e)) same, not_quiet_alike offer comes other comes' same)
-          by (OverLimit Atom) comes same = (at_step 4 (λ e. omega (arith, e)) same, atom_limit_alike comes other comes' same)
-          by (OverLimit State) comes same = (at_step 5 (λ e. omega (arith, e)) same, state_limit_alike comes other comes' same)
-          by (StageLine said is) comes same = (at_step 6 (λ e. omega (arith, e)) same, stage_line_alike said is comes other comes' same)
-          by (MidState line atom said is) comes same = mid_alike line atom said is comes other comes' same
-          by (StartStage said is) comes same = absurd comes
-          by (StartState atom said is) comes same = absurd comes
-          by NotEnded comes same = absurd comes
-          by (EndState atom said is) comes same = absurd comes
+          by : (cause other : Cause) → IsStepCause program height old rule step cause → IsStepCause program height old rule step other → tests cause ≡ tests other → AreAlike cause other
+          by (MidState line atom said is) (MidState line' atom' said' is') comes comes' same = both_mid line line' atom atom' said said' is is' comes comes'
+          by (MidState line atom said is) other comes comes' same = grind (arith, same)
+          by (OverLimit Atom) other comes comes' same = (own_line other (λ seven. other_count 4 7 refl (same ∙ seven)), told_alike (OverLimit Atom) other comes comes' same (other_count 4 7 refl))
+          by (OverLimit State) other comes comes' same = (own_line other (λ seven. other_count 5 7 refl (same ∙ seven)), told_alike (OverLimit State) other comes comes' same (other_count 5 7 refl))
+          by cause other comes comes' same =
+              let apart : tests cause ≡ 7 → ⊥ = other_count (tests cause) 7 refl in
+              (own_line other (λ seven. apart (same ∙ seven)), told_alike cause other comes comes' same apart)
 
 -- A log is refused for one cause at one line.
 

@@ -1,8 +1,13 @@
 -- What checking a step and a log comes to, from what each part finds.
 use Rattle.std.proofs.Common.{ℕ, List, length, arith, ◌≡◌, inr, ⊎_elim, zero, suc, ◌+◌, ◌<◌, ◌≤◌, [], ◌∷◌, take, drop, Some, sym, ap, subst, ◌∙◌, add-one, ◌⊎◌, Bool, ◌||◌, ◌++◌, map, Contains, Option, None, refl}
 use Rattle.std.specs.List.{AllByRecursion}
+use Rattle.std.specs.Prelude.{slice_get, ◌/◌, ◌↔◌, IsSome, IfSome, filter, IsSomeAnd}
+use Rattle.cep_rule.specs.Shapes.{IsOfferOf}
 use Rattle.cep_base.proofs.Lists.{all_weaker, all_mapped, some_same, get_mapped, holds_at}
+use Rattle.cep_base.proofs.Elements.{all_at, both_all}
 use Rattle.cep_term.specs.Tree.{Tree, AtomTree, IsGroundAtom, IsAtomInRange, IsFit, atom_of}
+use Rattle.cep_term.specs.BagLaws.{BagLaws}
+use Rattle.cep_text.specs.Texts.{IsTypedGround}
 use Rattle.cep_rule.specs.declared.signature.Signature.{Signature}
 use Rattle.cep_rule.specs.declared.rule.Rule.{Rule}
 use Rattle.cep_rule.specs.declared.parts.Parts.{Parts}
@@ -11,37 +16,33 @@ use Rattle.cep_rule.specs.TypeLaws.{TypeLaws}
 use Rattle.cep_rule.specs.Instances.{full_instance, full_instances, left_of, kept_of}
 use Rattle.cep_rule.specs.Steps.{Spot, AreProofs, start_spot}
 use Rattle.cep_log.specs.declared.log.LogStep.{LogStep}
+use Rattle.cep_log.specs.declared.log.Log.{Log}
+use Rattle.cep_log.specs.Legal.{IsStepOf, IsLegalStep, AreLegalSteps, IsHave, IsListing, IsLogOf}
 use Rattle.cep_step.specs.declared.change.Change.{Change}
 use Rattle.cep_step.specs.Changes.{edited, changed, IsChangeOf}
 use Rattle.cep_check.specs.declared.cause.Cause.{Cause}
+use Rattle.cep_check.specs.declared.cause.Verdict.{Verdict}
+use Rattle.cep_check.specs.declared.cause.Verdict.TheVariants.{Accepted, Refused}
+use Rattle.cep_check.specs.Telling.{IsTellableCause, IsTellable}
 use Rattle.cep_check.specs.declared.cause.Cause.TheVariants.{StageLine, MidState, StartStage, StartState, OtherStage, NotContained, NotProved, TooHigh, NotQuiet, OverLimit, NotEnded, EndState}
 use Rattle.cep_check.specs.Causes.{IsInTurn, IsWithinLimits, IsStepCause, IsOfStage, CanTake, IsProvedStep, cause_line, IsRefusedFrom, IsFirstDifference, IsFirstLack, IsStartCause, IsEndCause, IsVerdict, end_line}
 use Rattle.cep_check.specs.Walking.{IsStageCause, IsDoneStep, IsMidCause, IsReadyStep, IsLackCause, IsProofAt, IsOneProofCause, IsProofCause, IsQuietCause, IsEndVerdict}
-use Rattle.std.specs.Prelude.{slice_get, ◌/◌, ◌↔◌, IsSome, IfSome, filter, IsSomeAnd}
 use Rattle.std.proofs.lemmas.Bool.{eqb-true, eqb-false}
 use Rattle.std.proofs.lemmas.List.{take_all, drop_all}
+use Rattle.std.proofs.lemmas.Option.{slice_get_within}
+use Rattle.cep_term.specs.Multiset.{Multiset, count_of, gathered, held}
 use Rattle.cep_rule.specs.Derivations.{ProofTree, by_clause, Proves}
 use Rattle.cep_rule.specs.Limits.{IsSmallRule}
 use Rattle.cep_rule.specs.Program.{IsTypedRule, IsDividedRule, IsProgram}
+use Rattle.cep_rule.specs.Step.{Step}
 use Rattle.cep_rule.specs.Stages.{own_group, leaving_group}
-use Rattle.cep_log.specs.declared.log.Log.{Log}
-use Rattle.cep_log.specs.Legal.{IsStepOf, IsLegalStep, AreLegalSteps, IsHave, IsListing, IsLogOf}
-use Rattle.cep_base.proofs.Elements.{all_at, both_all}
-use Rattle.cep_term.specs.BagLaws.{BagLaws}
-use Rattle.cep_term.specs.Multiset.{Multiset, count_of, gathered, held}
 use Rattle.cep_rule.specs.Patterns.{PremiseTree}
 use Rattle.cep_rule.specs.declared.offer.Offer.{Offer}
 use Rattle.cep_rule.specs.Binding.{needed_of}
 use Rattle.cep_rule.specs.Offers.{Applies}
-use Rattle.cep_rule.specs.Shapes.{IsOfferOf}
-use Rattle.cep_rule.specs.Step.{Step}
-use Rattle.cep_text.specs.Texts.{IsTypedGround}
 use Rattle.cep_log.specs.declared.log.LogMid.{LogMid}
 use Rattle.cep_log.specs.declared.log.LogEnd.{LogEnd}
-use Rattle.cep_check.specs.declared.cause.Verdict.{Verdict}
-use Rattle.cep_check.specs.Telling.{IsTellableCause, IsTellable}
 use Rattle.std.specs.FinMap as finite
-use Rattle.cep_check.specs.declared.cause.Verdict.TheVariants.{Accepted, Refused}
 
 -- What a step of a log does to where the steps have led.
 
@@ -150,11 +151,6 @@ ready program rule step kept of_program numbered =
 
 -- What checking a log comes to can be told.
 
--- what stands at a place stands within the list
-at_within : {A : Type 0} (xs : List A) (n : ℕ) (x : A) → slice_get xs n ≡ Some x → n < length xs
-at_within (y ∷ xs) (suc n) x at = grind (arith, at_within xs n x)
-at_within xs n x at = grind arith
-
 -- a number that is not 0
 some_number : (n : ℕ) → (0 ≡ n → ⊥) → 0 < n
 some_number n apart = grind arith
@@ -219,7 +215,7 @@ module _ (bags : BagLaws) (types : TypeLaws) (comes_from : ComesFrom) (program :
   start_told log cause of_program comes = absurd comes
 
   step_told : (height : ℕ) (old : Spot) (rule : Rule) (step : LogStep) (cause : Cause) → AreWritable program old.state → IsStepOf program step → slice_get program.rules step.offer.rule ≡ Some rule → IsStepCause program height old rule step cause → IsTellableCause program cause
-  step_told height old rule step (OtherStage number) writable of_program numbered comes = subst (λ n. n < length program.rules) (sym comes.0) (at_within program.rules step.offer.rule rule numbered)
+  step_told height old rule step (OtherStage number) writable of_program numbered comes = subst (λ n. n < length program.rules) (sym comes.0) (slice_get_within program.rules step.offer.rule rule numbered)
   step_told height old rule step (NotContained atom have need) writable of_program numbered comes =
       let is = ready program rule step kept of_program numbered in
       lack_writable rule step.offer.values old.state (atom_of atom) have need is.values is.typed comes.1

@@ -8,25 +8,20 @@ use Rattle.cep_term.specs.Tree.{Tree, Trees, AtomTree, variable, node, none, mor
 use Rattle.cep_rule.specs.declared.signature.Con.{Con}
 use Rattle.cep_rule.specs.declared.signature.Signature.{Signature}
 use Rattle.cep_dead.specs.Tables.{Possibility, of_stage, of_pred, of_con, nth_argument, HasConAt, HasVarAt, StandsAlone, IsOpen, CanBegin}
-use Rattle.cep_dead.specs.Held.{is_term_open, are_args_open, is_open, is_variable, is_among, stands_alone, is_kept_among, is_kept, is_of_sort, can_begin, is_begun, is_added_among, is_added}
+use Rattle.cep_dead.specs.Held.{is_term_open, are_args_open, is_open, is_variable, is_among, stands_alone, is_kept_among, is_kept, can_begin, is_begun, is_added_among, is_added}
+use Rattle.cep_base.proofs.Bools.{or_cases as case_or, and_from as both, or_left as either_first, or_right as either_second}
 
-case_or : (a b : Bool) → (a || b) ≡ true → (a ≡ true) ⊎ (b ≡ true)
-case_or a b e = grind arith
+pub or_first : (a b : Bool) → (a || b) ≡ false → a ≡ false
+or_first a b e = grind arith
 
-both : (a b : Bool) → a ≡ true → b ≡ true → (a && b) ≡ true
-both a b e e' = grind arith
+pub or_second : (a b : Bool) → (a || b) ≡ false → b ≡ false
+or_second a b e = grind arith
 
-first_of : (a b : Bool) → (a && b) ≡ true → a ≡ true
+pub first_of : (a b : Bool) → (a && b) ≡ true → a ≡ true
 first_of a b e = grind arith
 
-second_of : (a b : Bool) → (a && b) ≡ true → b ≡ true
+pub second_of : (a b : Bool) → (a && b) ≡ true → b ≡ true
 second_of a b e = grind arith
-
-either_first : (a b : Bool) → a ≡ true → (a || b) ≡ true
-either_first a b e = grind arith
-
-either_second : (a b : Bool) → b ≡ true → (a || b) ≡ true
-either_second a b e = grind arith
 
 from_not_or : (a b : Bool) → (not a || b) ≡ true → a ≡ true → b ≡ true
 from_not_or a b e e' = grind arith
@@ -122,9 +117,6 @@ module _ (has : Possibility → Bool) where
       (kept_are atoms v c (λ a i there. each a i (contains_behind b atoms a there)))
 
   module _ (signature : Signature) (kinds : List ℕ) (premises : List AtomTree) (v c : ℕ) where
-    abbrev sorted : Option ℕ → Bool
-    sorted kind = unwrap_or (option_map (λ sort. is_of_sort signature.cons sort c) kind) false
-
     of_sort_true : (kind : Option ℕ) (con : Option Con) → unwrap_or (option_map (λ sort. unwrap_or (option_map (λ (k : Con). k.sort == sort) con) false) kind) false ≡ true → IsSomeAnd con (λ k. kind ≡ Some k.sort)
     of_sort_true kind con e = grind (arith, eqb-true)
 

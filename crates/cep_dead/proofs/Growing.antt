@@ -1,24 +1,24 @@
 -- Tables grow from round to round, and each derivable atom is open in one.
 use Rattle.std.proofs.Common.{◌≡◌, ⊎_elim, inl, inr, ℕ, zero, suc, ◌+◌, ◌-◌, ◌≤◌, List, refl, subst, arith, ◌⊎◌, [], ◌∷◌, Option, Some, unwrap_or, sym, ap, ◌∙◌, max, ◌↔◌, true, false, ◌==◌, Contains}
 use Rattle.std.specs.List.{AllByRecursion}
+use Rattle.std.specs.Prelude.{slice_get, IsSomeAnd}
+use Rattle.std.proofs.lemmas.Bool.{eqb-true, eqb-false}
 use Rattle.cep_base.proofs.Lists.{all_weaker, none_some, some_same, holds_at}
+use Rattle.cep_rule.specs.Program.{IsTypedClause, IsProgram}
 use Rattle.cep_term.specs.Tree.{AtomTree, Tree, Trees, variable, node, none, more}
+use Rattle.cep_term.specs.Values.{Values, value_of, term_instance, argument_instances}
 use Rattle.cep_rule.specs.declared.signature.Signature.{Signature}
+use Rattle.cep_rule.specs.declared.signature.Con.{Con}
 use Rattle.cep_rule.specs.declared.rule.Rule.{Rule}
 use Rattle.cep_rule.specs.declared.parts.Parts.{Parts}
+use Rattle.cep_rule.specs.Patterns.{ClauseTree}
 use Rattle.cep_dead.specs.Tables.{Possibility, IsOpen, CanBegin, PremisesPass, AtomAdds, nth_argument, HasConAt, HasVarAt, of_con}
 use Rattle.cep_dead.specs.Rounds.{RulePasses, IsAddedByRule, IsAddedByClause, IsInRound, IsDead, premises_of, IsMade, IsInSomeRound, IsClosedTable}
-use Rattle.std.specs.Prelude.{slice_get, IsSomeAnd}
 use Rattle.cep_base.proofs.Elements.{all_at, contains_map, contains_at, all_of, contains_none, contains_first, contains_behind, contains_cases}
-use Rattle.cep_term.specs.Values.{Values, value_of, term_instance, argument_instances}
-use Rattle.cep_rule.specs.declared.signature.Con.{Con}
 use Rattle.cep_rule.specs.Typing.{HasSort, HaveSorts, IsTyped, IsValue, AreValues}
 use Rattle.cep_rule.specs.Instances.{given, full_instance, full_instances}
-pub use Rattle.cep_base.proofs.Options.{from_some_is as from_some}
-use Rattle.cep_rule.specs.Patterns.{ClauseTree}
 use Rattle.cep_rule.specs.Derivations.{ProofTree, ProofTrees, by_clause, no_goal, goal_by, IsHeadBy, Proves, ProveAll, IsDerivable}
-use Rattle.cep_rule.specs.Program.{IsTypedClause, IsProgram}
-use Rattle.std.proofs.lemmas.Bool.{eqb-true, eqb-false}
+pub use Rattle.cep_base.proofs.Options.{from_some_is as from_some}
 
 -- Tables grow from round to round, and what passes one passes each later one.
 

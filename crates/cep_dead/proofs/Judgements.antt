@@ -2,28 +2,28 @@
 use Rattle.std.proofs.Common.{◌≡◌, ℕ, zero, suc, ◌+◌, ◌<◌, ◌≤◌, ◌==◌, nat_lt, Bool, true, false, ◌&&◌, ◌||◌, List, [], ◌∷◌, ◌++◌, length, map, take, get_or, refl, sym, ap, ◌∙◌, append_assoc, Bor, ◌≢◌, eq-eqb, eqb-true, length-append, arith, subst}
 use Rattle.std.specs.Prelude.{Option, Some, None, slice_get, is_some, option_map, unwrap_or, Result, IfOk, MatchOption}
 use Rattle.std.specs.List.{list_any, list_all, AllByRecursion}
-use Rattle.std.proofs.lemmas.List.{length-map}
-use Rattle.std.proofs.lemmas.Option.{slice_get-get_or}
+use Rattle.std.proofs.lemmas.List.{length-map, take_all}
+use Rattle.std.proofs.lemmas.Option.{slice_get-get_or, slice_get_past as beyond_none}
 use Rattle.std.proofs.lemmas.Bool.{ltb-false, eqb-false, true≢false, false≢true, cases_lt}
+use Rattle.cep_base.proofs.Elements.{all_at}
 use Rattle.cep_base.proofs.Lists.{take_next, map_last, get_mapped, none_some, some_same, all_pushed, holds_at}
+use Rattle.cep_base.proofs.Options.{some_there, within_got}
+use Rattle.cep_rule.specs.Typing.{HasSort, HaveSorts, IsTyped}
 use Rattle.cep_term.specs.declared.term.Atom.{Atom}
 use Rattle.cep_term.specs.Tree.{AtomTree, atom_of, Trees, variable, none, more}
 use Rattle.cep_rule.specs.declared.rule.Rule.{Rule}
-use Rattle.cep_rule.specs.Binding.{needed_of}
 use Rattle.cep_rule.specs.declared.signature.Con.{Con}
 use Rattle.cep_rule.specs.declared.signature.Signature.{Signature}
+use Rattle.cep_rule.specs.Binding.{needed_of}
+use Rattle.cep_rule.specs.Limits.{IsSmallSignature}
 use Rattle.cep_dead.specs.declared.bits.Bits.{Bits}
 use Rattle.cep_dead.specs.Sets.{has_bit}
+use Rattle.cep_dead.specs.Whys.{IsFirstShut, IsFirstEmpty}
+use Rattle.cep_dead.proofs.Passes.{shut_among}
 use Rattle.cep_dead.specs.Tables.{Possibility, nth_argument, HasVarAt, StandsAlone, IsOpen, CanBegin, PremisesPass}
 use Rattle.cep_dead.specs.Held.{words_at, is_in_set, has_all, is_among, stands_alone, is_kept_among, is_kept, is_of_sort, can_begin, arguments_in, HasFewArguments, is_open, AreSets}
-pub use Rattle.cep_base.proofs.Bytes.{any_map as any_mapped}
-use Rattle.cep_base.proofs.Options.{some_there, within_got}
-use Rattle.cep_base.proofs.Elements.{all_at}
-use Rattle.cep_rule.specs.Typing.{HasSort, HaveSorts, IsTyped}
-use Rattle.cep_rule.specs.Limits.{IsSmallSignature}
-use Rattle.cep_dead.specs.Whys.{IsFirstShut, IsFirstEmpty}
 use Rattle.cep_dead.proofs.Deciding.{open_true, open_is, alone_true, begin_true, begin_is}
-use Rattle.cep_dead.proofs.Passes.{shut_among}
+pub use Rattle.cep_base.proofs.Bytes.{any_map as any_mapped}
 
 -- Lists that grow at their end, and what is told of each of their items.
 
@@ -31,10 +31,7 @@ pub pushed : {X A : Type 0} (at : X → A) (old : List A) (now : List X) (list :
 pushed at old now list i x is e = grind (arith, map_last, append_assoc, take_next)
 
 pub all_taken : {A : Type 0} (list : List A) (i : ℕ) → length list ≤ i → take i list ≡ list
-all_taken [] zero within = refl
-all_taken [] (suc i) within = refl
-all_taken (x ∷ list) zero within = absurd (omega arith)
-all_taken (x ∷ list) (suc i) within = ap (λ xs. x ∷ xs) (all_taken list i (omega arith))
+all_taken list i within = take_all i list within
 
 pub item_at : {X A : Type 0} (f : X → A) (xs : List X) (i : ℕ) (x : X) → i < length xs → x ≡ get_or xs i x → slice_get (map f xs) i ≡ Some (f x)
 item_at f xs i x less is = get_mapped f xs i x (slice_get-get_or xs i x less ∙ ap Some (sym is))
@@ -59,10 +56,6 @@ sort_next sort_at c old new was is further m = let e = further m in let o = was 
 
 pub sort_passed : (sort_at : ℕ → Bool) (c : ℕ) (old : ℕ → Bool) → ((m : ℕ) → old m ≡ (nat_lt m c && sort_at m)) → sort_at c ≡ false → (m : ℕ) → old m ≡ (nat_lt m (c + 1) && sort_at m)
 sort_passed sort_at c old was is m = let o = was m in grind (arith, o, is)
-
-beyond_none : {A : Type 0} (xs : List A) (k : ℕ) → length xs ≤ k → slice_get xs k ≡ None
-beyond_none (x ∷ xs) (suc k) within = beyond_none xs k (omega arith)
-beyond_none xs k within = grind arith
 
 pub sort_done : (cons : List Con) (sort c : ℕ) (set : ℕ → Bool) → length cons ≤ c → ((m : ℕ) → set m ≡ (nat_lt m c && is_of_sort cons sort m)) → (m : ℕ) → set m ≡ is_of_sort cons sort m
 sort_done cons sort c set done is m = grind (arith, beyond_none, ltb-false)

@@ -7,6 +7,7 @@ use Rattle.cep_base.proofs.Lists.{holds_at}
 use Rattle.cep_base.proofs.Elements.{both_all, all_at, all_of, contains_at, contains_same, contains_behind, contains_cases, contains_either, contains_map, map_cases}
 use Rattle.cep_term.specs.Tree.{Tree, AtomTree}
 use Rattle.cep_term.specs.Multiset.{Multiset, count_of, IsContained}
+use Rattle.cep_rule.specs.Program.{IsTypedRule, IsProgram}
 use Rattle.cep_rule.specs.declared.rule.Rule.{Rule}
 use Rattle.cep_rule.specs.declared.parts.Parts.{Parts}
 use Rattle.cep_rule.specs.declared.offer.Offer.{Offer}
@@ -17,7 +18,6 @@ use Rattle.cep_rule.specs.Instances.{full_instance, full_instances, kept_of, lef
 use Rattle.cep_rule.specs.Offers.{Applies}
 use Rattle.cep_rule.specs.Step.{Step}
 use Rattle.cep_rule.specs.Steps.{Spot}
-use Rattle.cep_rule.specs.Program.{IsTypedRule, IsProgram}
 use Rattle.cep_dead.specs.Tables.{of_stage, IsOpen}
 use Rattle.cep_dead.specs.Rounds.{stage_of, premises_of, RulePasses, IsInRound, IsDead}
 use Rattle.cep_dead.specs.Moves.{first_spot, Moves, AreMoves}

@@ -4,28 +4,29 @@ use Rattle.std.specs.Prelude.{slice_get, ◌==◌, nat_lt, ◌≢◌}
 use Rattle.std.specs.Ordering.{is_eq, eq_by_cmp}
 use Rattle.std.specs.Cmp.{tied_itself, Equal-is}
 use Rattle.std.proofs.lemmas.Bool.{false≢true}
-use Rattle.std.proofs.lemmas.List.{map-set, length-map, length-append, map-append, replicate_more}
+use Rattle.std.proofs.lemmas.Bool.Decides.{nat_tests}
+use Rattle.std.proofs.lemmas.List.{map-set, length-map, map-append, replicate_more}
 use Rattle.std.proofs.lemmas.Option.{slice_get-get_or, slice_get_within}
+use Rattle.std.proofs.lemmas.List.Concat.{flat_map-append}
+use Rattle.std.specs.List.{AllZip, flat_map}
 use Rattle.cep_base.proofs.Lists.{none_some, some_same, get_mapped, get_kept, map_last, zip_push, take_next}
+use Rattle.cep_store.specs.Held.{AreApart, HasId}
 use Rattle.cep_base.proofs.Elements.{contains_none, contains_behind, contains_cases, contains_same, contains_first, all_at, contains_left, contains_right, contains_map, map_cases}
 use Rattle.cep_term.specs.Tree.{AtomTree, Tree}
 use Rattle.cep_term.specs.Order.{atom_cmp}
 use Rattle.cep_term.specs.BagLaws.{BagLaws}
-use Rattle.cep_store.specs.Held.{AreApart, HasId}
+use Rattle.cep_term.specs.Multiset.{count_of, with_one, gathered, gained}
 use Rattle.cep_graph.specs.declared.trace.Trace.{Trace}
 use Rattle.cep_graph.specs.Queues.{Queues, AreQueues, row_of, queue_of, IsIdOf, Changes, GetsId}
-use Rattle.std.specs.List.{filter, AllZip, flat_map}
-use Rattle.std.proofs.lemmas.Bool.Decides.{nat_tests}
 use Rattle.cep_cause.specs.Tokens.{Token, has_number, staying, numbered, token_atoms, token_state}
+use Rattle.cep_cause.specs.Touches.{Touch}
 use Rattle.cep_graph.specs.Traces.{tokens_of, NumbersIncrease, IsTrace, AreTraced, made_for, MakesFor, AreOfStart}
-pub use Rattle.cep_cause.proofs.Tokened.{numbered_there}
-use Rattle.cep_term.specs.Multiset.{count_of, with_one, gathered, gained}
+use Rattle.cep_graph.proofs.Tracing.{made_trace}
 use Rattle.cep_rule.specs.declared.signature.Signature.{Signature}
 use Rattle.cep_rule.specs.Typing.{is_fact}
 use Rattle.cep_rule.specs.Instances.{full_instance, full_instances}
-use Rattle.cep_cause.specs.Touches.{Touch}
-use Rattle.cep_graph.proofs.Tracing.{made_trace}
-use Rattle.std.proofs.lemmas.List.Concat.{flat_map-append}
+pub use Rattle.cep_cause.proofs.Tokened.{numbered_there}
+pub use Rattle.cep_cause.proofs.Distinct.{filter_cases, filter_there}
 
 -- Queues at the ids of their atoms.
 
@@ -123,19 +124,6 @@ module _ (laws : BagLaws) where
   more_rows atoms rows a b long = grind arith
 
   module _ {X : Type 0} (f : X → List Trace) (old new : List AtomTree) (deques : List X) (id : ℕ) (a : AtomTree) where
-    -- An atom was met before.
-    pub meets_known : (now : Queues) → record { atoms = old; rows = map f deques } ≡ now → AreQueues (record { atoms = old; rows = map f deques }) → HasId old a id new → length new ≤ length old
-        → GetsId now a id (record { atoms = new; rows = map f deques })
-    meets_known now e are has few = subst (λ (q : Queues). GetsId q a id (record { atoms = new; rows = map f deques })) e
-        (⊎_elim
-        (λ (same : new ≡ old). record {
-          met = has.stands;
-          queues = λ b. ap (λ (atoms : List AtomTree). row_of atoms (map f deques) b) same;
-          ids = λ other b at. ap (λ (atoms : List AtomTree). slice_get atoms other) same ∙ at;
-        })
-        (λ (more : new ≡ old ++ a ∷ []). let long = ap (λ (atoms : List AtomTree). length atoms) more ∙ length-append old (a ∷ []) in absurd (omega arith))
-        (grown old new a id has))
-
     -- An atom is met for the first time.
     pub meets_new : (now : Queues) (d : X) → record { atoms = old; rows = map f deques } ≡ now → AreQueues (record { atoms = old; rows = map f deques }) → HasId old a id new → length old < length new → f d ≡ []
         → GetsId now a id (record { atoms = new; rows = map f (deques ++ d ∷ []) })
@@ -150,12 +138,6 @@ module _ (laws : BagLaws) where
         (grown old new a id has))
 
 -- The oldest token of an atom stands first among those of the atom.
-
-module _ {X : Type 0} where
-  -- a part of a list by a test
-  pub filter_cases : (p : X → Bool) (xs : List X) (x : X) → Contains (filter p xs) x → Contains xs x × (p x ≡ true)
-  filter_cases p [] x there = absurd (contains_none x there)
-  filter_cases p (y ∷ xs) x there = grind (arith, filter_cases p xs x, contains_cases y (filter p xs) x, contains_behind y xs x, contains_same y xs x)
 
 below_apart : (a b : ℕ) → a < b → (a == b) ≡ false
 below_apart a b less = grind (arith, nat_tests)
@@ -253,15 +235,6 @@ module _ (laws : BagLaws) where
 
 -- Tokens are made for one right atom after another.
 
--- an element that passes the test is in the part
-pub filter_there : {X : Type 0} (p : X → Bool) (xs : List X) (x : X) → Contains xs x → p x ≡ true → Contains (filter p xs) x
-filter_there p [] x there is = absurd (contains_none x there)
-filter_there p (y ∷ xs) x there is = by (p y) refl (λ later. filter_there p xs x later is) there
-  where
-    by : (t : Bool) → p y ≡ t → (Contains xs x → Contains (filter p xs) x) → Contains (y ∷ xs) x → Contains (cond t (y ∷ filter p xs) (filter p xs)) x
-    by true e rest there = ⊎_elim (λ same. contains_same y (filter p xs) x same) (λ later. contains_behind y (filter p xs) x (rest later)) (contains_cases y xs x there)
-    by false e rest there = ⊎_elim (λ (same : y ≡ x). absurd (false≢true (sym e ∙ ap p same ∙ is))) (λ later. rest later) (contains_cases y xs x there)
-
 zip_length : {A B : Type 0} (R : A → B → Type 0) (xs : List A) (ys : List B) → AllZip R xs ys → length xs ≡ length ys
 zip_length R (x ∷ xs) (y ∷ ys) all = let rest = zip_length R xs ys all.1 in omega arith
 zip_length R xs ys all = grind arith
@@ -323,10 +296,6 @@ module _ (laws : BagLaws) (signature : Signature) where
       omega arith
 
   module _ (values : List Tree) where
-    pub make_none : (number : ℕ) (queues : Queues) → MakesFor signature values [] number queues queues
-    make_none number queues done touch before tokens next last fresh makes traced =
-        subst (λ (ts : List Token). AreTraced signature (done ++ touch ∷ []) ts queues) (sym (append-nil tokens)) traced
-
     module _ (atom : AtomTree) (atoms : List AtomTree) (number : ℕ) (old mid new : Queues) (id : ℕ) (meets : GetsId old (full_instance values atom) id mid) where
       same_test : (done : List Touch) (tokens : List Token) (t : Bool) → (is_fact signature (full_instance values atom) && nat_lt 0 (length (queue_of mid (full_instance values atom)))) ≡ t → AreTraced signature done tokens mid
           → (is_fact signature (full_instance values atom) && nat_lt 0 (count_of (token_state tokens) (full_instance values atom))) ≡ t

@@ -1,35 +1,31 @@
 -- The graph of a log, step by step, of which there is one.
-use Rattle.std.proofs.Common.{◌≡◌, ℕ, ◌+◌, ◌≤◌, List, ◌∷◌, length, arith, ◌⊎◌, inl, inr, ⊎_elim, zero, suc, ◌<◌, [], ◌++◌, take, drop, Some, sym, ap, ◌∙◌, subst, ◌↔◌, ◌-◌, get_or, refl, Contains}
+use Rattle.std.proofs.Common.{◌≡◌, ℕ, ◌+◌, ◌≤◌, List, ◌∷◌, length, arith, ◌⊎◌, inl, inr, ⊎_elim, zero, suc, ◌<◌, [], ◌++◌, take, drop, Some, sym, ap, ◌∙◌, subst, ◌-◌, refl, Contains}
 use Rattle.cep_base.specs.declared.limits.TheConstants.{MOST_LOG}
-use Rattle.cep_rule.specs.declared.parts.Parts.{Parts}
-use Rattle.cep_log.specs.declared.log.Log.{Log}
-use Rattle.cep_log.specs.declared.log.LogStep.{LogStep}
-use Rattle.cep_log.specs.Legal.{IsLegal, IsStepOf}
-use Rattle.cep_order.specs.declared.step_cause.StepCause.{StepCause}
-use Rattle.cep_cause.specs.Tokens.{Token, listed_copies, start_tokens}
-use Rattle.cep_cause.specs.Touches.{Touch, AreTouches, present_after, IsTouch, AreTouchesOf}
-use Rattle.cep_cause.specs.Graphs.{IsGraph, IsCause, AreCauses}
-use Rattle.std.specs.Prelude.{slice_get, is_some}
-use Rattle.std.proofs.lemmas.List.{length-take-le, length-append}
-use Rattle.std.proofs.lemmas.Option.{slice_get_within, slice_get_cases}
 use Rattle.cep_base.proofs.Lists.{none_some, some_same, take_next, holds_at}
+use Rattle.cep_base.proofs.Elements.{all_at}
+use Rattle.cep_rule.specs.declared.parts.Parts.{Parts}
 use Rattle.cep_rule.specs.declared.rule.Rule.{Rule}
 use Rattle.cep_rule.specs.Typing.{AreValues}
 use Rattle.cep_rule.specs.Program.{IsProgram, IsTypedRule}
+use Rattle.cep_log.specs.declared.log.Log.{Log}
+use Rattle.cep_log.specs.declared.log.LogStep.{LogStep}
+use Rattle.cep_log.specs.Legal.{IsLegal, IsStepOf}
+use Rattle.cep_cause.specs.Graphs.{IsGraph, IsCause, AreCauses}
+use Rattle.cep_cause.specs.Tokens.{Token, listed_copies, start_tokens}
+use Rattle.cep_order.specs.declared.step_cause.StepCause.{StepCause}
+use Rattle.cep_order.proofs.OneOrder.{same_increasing}
+use Rattle.cep_graph.proofs.Trailing.{numbered_increase, numbered_below}
+use Rattle.cep_graph.proofs.Taken.{drop_next}
 use Rattle.cep_graph.specs.Queues.{Queues}
 use Rattle.cep_graph.specs.Traces.{AreOfStart}
+use Rattle.cep_cause.specs.Touches.{Touch, AreTouches, present_after, IsTouch, AreTouchesOf}
+use Rattle.cep_cause.proofs.StatesAfter.{as_many as one_each}
+use Rattle.std.specs.Prelude.{slice_get, is_some}
+use Rattle.std.proofs.lemmas.List.{length-take-le, length-append}
+use Rattle.std.proofs.lemmas.Option.{slice_get_within, slice_get_cases}
 use Rattle.cep_graph.specs.Trails.{IsTrail, IsTouchBy, TouchesBy}
-use Rattle.cep_graph.proofs.Taken.{drop_next}
-use Rattle.cep_graph.proofs.Trailing.{numbered_increase, numbered_below}
-use Rattle.std.specs.List.Sorted.{IsStrictlyIncreasing}
-use Rattle.std.proofs.lemmas.List.Kept.{AllPairs-from_increasing}
-use Rattle.cep_base.proofs.Elements.{contains_none, contains_cases, contains_same, contains_behind, all_at}
 
 -- A graph has an entry for each step.
-
-one_each : (program : Parts) (next : ℕ) (present : List Token) (steps : List LogStep) (touches : List Touch) → AreTouches program next present steps touches → length touches ≡ length steps
-one_each program next present (step ∷ steps) (touch ∷ touches) are = omega (arith, one_each program (next + length touch.makes) (present_after present touch) steps touches are.1)
-one_each program next present steps touches are = grind arith
 
 -- of a legal log not more than a transcript may have bytes
 pub few_causes : (program : Parts) (log : Log) (causes : List StepCause) → IsLegal program log → IsGraph program log causes → length causes ≤ MOST_LOG
@@ -166,35 +162,6 @@ has_rule program log i step is legal at =
     }
 
 -- A log has one graph, and comes to one answer by a seed.
-
--- Strictly increasing lists with the same elements are the same.
-rest_increases : (x : ℕ) (xs : List ℕ) → IsStrictlyIncreasing (x ∷ xs) → IsStrictlyIncreasing xs
-rest_increases x xs increases k within =
-    let next : suc k + 1 ≡ suc (k + 1) = omega arith in
-    subst (λ n. get_or xs k 0 < get_or (x ∷ xs) n 0) next (increases (suc k) (omega arith))
-
-first_is_least : (x : ℕ) (xs : List ℕ) (y : ℕ) → IsStrictlyIncreasing (x ∷ xs) → Contains xs y → x < y
-first_is_least x xs y increases there = subst (λ n. x < n) there.2 (AllPairs-from_increasing (x ∷ xs) increases 0 (suc there.0) y (omega arith) (omega (arith, there.1)))
-
-same_first : (x : ℕ) (xs : List ℕ) (y : ℕ) (ys : List ℕ) → IsStrictlyIncreasing (x ∷ xs) → IsStrictlyIncreasing (y ∷ ys) → Contains (y ∷ ys) x → Contains (x ∷ xs) y → x ≡ y
-same_first x xs y ys one other here there =
-    ⊎_elim
-    (λ same. sym same)
-    (λ later. ⊎_elim (λ same. same) (λ again. let less = first_is_least y ys x other later in absurd (omega (arith, less, first_is_least x xs y one again))) (contains_cases x xs y there))
-    (contains_cases y ys x here)
-
-rest_same : (x : ℕ) (xs : List ℕ) (y : ℕ) (ys : List ℕ) (n : ℕ) → IsStrictlyIncreasing (x ∷ xs) → x ≡ y → (Contains (x ∷ xs) n → Contains (y ∷ ys) n) → Contains xs n → Contains ys n
-rest_same x xs y ys n increases same goes there =
-    ⊎_elim (λ first. let less = first_is_least x xs n increases there in absurd (omega (arith, less, first, same))) (λ later. later) (contains_cases y ys n (goes (contains_behind x xs n there)))
-
-same_increasing : (xs ys : List ℕ) → IsStrictlyIncreasing xs → IsStrictlyIncreasing ys → ((n : ℕ) → (Contains xs n ↔ Contains ys n)) → xs ≡ ys
-same_increasing [] [] one other same = refl
-same_increasing [] (y ∷ ys) one other same = absurd (contains_none y ((same y).1 (contains_same y ys y refl)))
-same_increasing (x ∷ xs) [] one other same = absurd (contains_none x ((same x).0 (contains_same x xs x refl)))
-same_increasing (x ∷ xs) (y ∷ ys) one other same =
-    let first = same_first x xs y ys one other ((same x).0 (contains_same x xs x refl)) ((same y).1 (contains_same y ys y refl)) in
-    let rest = same_increasing xs ys (rest_increases x xs one) (rest_increases y ys other) (λ n. (rest_same x xs y ys n one first (same n).0, rest_same y ys x xs n other (sym first) (same n).1)) in
-    ap (λ n. n ∷ xs) first ∙ ap (λ (ns : List ℕ). y ∷ ns) rest
 
 module _ (touches : List Touch) (place : ℕ) (touch : Touch) where
   -- the numbers in one entry of a step stand in each

@@ -8,12 +8,14 @@ use Rattle.cep_base.proofs.Elements.{contains_none, contains_first, contains_beh
 use Rattle.cep_term.specs.Tree.{Tree, AtomTree}
 use Rattle.cep_term.specs.Order.{atom_cmp}
 use Rattle.cep_term.specs.BagLaws.{BagLaws}
+use Rattle.cep_base.proofs.Bools.{or_right, or_from as or_false}
 use Rattle.cep_rule.specs.declared.signature.Signature.{Signature}
 use Rattle.cep_rule.specs.Patterns.{PremiseTree}
 use Rattle.cep_rule.specs.Typing.{is_fact}
 use Rattle.cep_rule.specs.Instances.{full_instance}
-use Rattle.cep_cause.specs.Tokens.{Token, has_number, staying, ArePicks, picked_to_go}
+use Rattle.cep_cause.specs.Tokens.{Token, has_number, staying, picked_to_go}
 use Rattle.cep_cause.specs.Touches.{Touch}
+use Rattle.cep_cause.proofs.Tokened.{removed_used, picks_apart}
 use Rattle.cep_graph.specs.declared.trace.Trace.{Trace}
 use Rattle.cep_graph.specs.Queues.{Queues, queue_of, Changes, GetsId}
 use Rattle.cep_graph.specs.Traces.{tokens_of, IsTrace, AreTraced, IsTaking, AddsNumbers, HasTaken, TakesFor}
@@ -21,19 +23,6 @@ use Rattle.cep_graph.proofs.Made.{itself, filter_cases, number_itself, same_if, 
 use Rattle.cep_graph.proofs.Tracing.{zip_more, passed_trace, used_trace, rests_none, rests_used, rests_removed}
 pub use Rattle.cep_base.proofs.Drops.{drop_at as drop_next}
 pub use Rattle.cep_cause.proofs.Tokened.{picks_present}
-use Rattle.cep_cause.proofs.Tokened.{removed_used}
-
--- a linear token that is picked was not used
-picks_apart : (signature : Signature) (values : List Tree) (present used : List Token) (premises : List PremiseTree) (tokens : List Token) (token : Token) → ArePicks signature values present used premises tokens
-    → Contains tokens token → is_fact signature token.atom ≡ false → Contains used token → ⊥
-picks_apart signature values present used (premise ∷ premises) (first ∷ tokens) token picks there linear was =
-    ⊎_elim
-    (λ (same : first ≡ token).
-    let is : is_fact signature first.atom ≡ false = ap (λ (t : Token). is_fact signature t.atom) same ∙ linear in
-    picks.0.can.unused (ap (is_fact signature) (sym picks.0.can.of_atom) ∙ is) (subst (λ (t : Token). Contains used t) (sym same) was))
-    (λ later. picks_apart signature values present (first ∷ used) premises tokens token picks.1 later linear (contains_behind first used token was))
-    (contains_cases first tokens token there)
-picks_apart signature values present used premises tokens token picks there linear was = grind arith
 
 -- one token goes over from those to be used to those that are used
 one_over : (token : Token) (used uses : List Token) (x : Token) → ((Contains used x ⊎ Contains (token ∷ uses) x) ↔ (Contains (token ∷ used) x ⊎ Contains uses x))
@@ -107,10 +96,6 @@ module _ (laws : BagLaws) (signature : Signature) (values : List Tree) where
         outside : (other : Token) → Contains present other → is_fact signature other.atom ≡ false → (t : Bool) → (token.number == other.number) ≡ t → (t || has_number out other.number) ≡ true → Contains (token ∷ used) other
         outside other there linear' true e o = contains_same token used other (one_token present token other is.increasing there_token there (same_if token.number other.number e))
         outside other there linear' false e o = contains_behind token used other ((is.linear other there linear').0 o)
-
-        or_right : (s t : Bool) → t ≡ true → (s || t) ≡ true
-        or_right true t e = refl
-        or_right false t e = e
 
         before_out : (other : Token) → Contains present other → is_fact signature other.atom ≡ false → Contains (token ∷ used) other → (token.number == other.number || has_number out other.number) ≡ true
         before_out other there linear' before =
@@ -198,9 +183,6 @@ module _ (laws : BagLaws) (signature : Signature) (values : List Tree) where
       adds = subst (λ (gone : List Token). AddsNumbers done (token ∷ uses) gone numbers numbers') (sym (go_on stays)) adds;
     }
 
-    or_true : (s t : Bool) → t ≡ true → (s || t) ≡ true
-    or_true s t e = grind arith
-
     -- a fact is picked
     fact_taken : is_fact signature premise.atom ≡ true → (number : ℕ) (old mid new : Queues) (maker : ℕ) (numbers numbers' : List ℕ) → number ≡ length done + 1
         → AreTraced signature done (staying out present) old → ((b : AtomTree) → queue_of mid b ≡ queue_of old b)
@@ -211,7 +193,7 @@ module _ (laws : BagLaws) (signature : Signature) (values : List Tree) where
         let traced' = same_traces old mid (staying out present) same traced in
         let front = first_front mid out (fact_oldest fact) traced' in
         let taken = rest done present (token ∷ used) out uses touch last (fact_next fact) traced' in
-        go_on_taken (or_true premise.kept (is_fact signature premise.atom) fact) new numbers numbers' taken.traced
+        go_on_taken (or_right premise.kept (is_fact signature premise.atom) fact) new numbers numbers' taken.traced
         (maker_adds front.0 maker numbers numbers' front.3 (maker_is front.0 front.1 (ap (queue_of mid) (sym is.picks.0.can.of_atom) ∙ front.2)) (picked_to_go signature premises uses) taken.adds)
 
     cut : (R : Token → Trace → Type 0) (s t : Bool) (tokens : List Token) (trace : Trace) (traces : List Trace) → s ≡ t → AllZip R (cond s (token ∷ tokens) tokens) (cond t (trace ∷ traces) traces) → AllZip R tokens traces
@@ -297,10 +279,6 @@ module _ (laws : BagLaws) (signature : Signature) (values : List Tree) where
             absurd (picks_apart signature values present (token ∷ used) premises uses token is.picks.1 (subst (λ (t : Token). Contains uses t) same among) (own_kind ∙ linear) (contains_first token used))
         not_gone false e = refl
 
-        or_false : (s t : Bool) → s ≡ false → t ≡ false → (s || t) ≡ false
-        or_false true t e e' = absurd (false≢true (sym e))
-        or_false false t e e' = e'
-
         right_false : (s t : Bool) → (s || t) ≡ false → t ≡ false
         right_false true t e = absurd (false≢true (sym e))
         right_false false t e = e
@@ -312,8 +290,6 @@ module _ (laws : BagLaws) (signature : Signature) (values : List Tree) where
           oldest = λ other there same free. (linear_oldest linear).oldest other there same
               (right_false (has_number (picked_to_go signature premises uses) other.number) (has_number out other.number) (sym (has_append (picked_to_go signature premises uses) out other.number) ∙ free));
         }
-
-  -- One premise, then the others
 
   pub fact_takes : (premise : PremiseTree) (premises : List PremiseTree) (number : ℕ) (old mid new : Queues) (id maker : ℕ) (numbers numbers' : List ℕ) → is_fact signature premise.atom ≡ true
       → GetsId old (full_instance values premise.atom) id mid

@@ -83,8 +83,6 @@ module _ (signature : Signature) (done : List Touch) (touch : Touch) (token : To
     );
   }
 
--- On which steps one rests
-
 module _ (done : List Touch) (place : ℕ) where
   pub rests_none : RestsOnAt done (using [] []) place → ⊥
   rests_none rests = ⊎_elim (λ one. contains_none rests.rests.0 one.1) (λ other. contains_none rests.rests.0 other.1) rests.rests.1

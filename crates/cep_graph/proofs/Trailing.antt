@@ -1,37 +1,37 @@
 -- One step more, and the numbers on which it rests.
-use Rattle.std.proofs.Common.{◌≡◌, ◌↔◌, ℕ, ◌<◌, true, List, [], sym, ap, ◌∙◌, subst, arith, Contains, ◌⊎◌, inl, inr, ⊎_elim, ◌+◌, ◌≤◌, Bool, false, cond, not, ◌∷◌, ◌++◌, length, refl, append-nil, map, Some}
-use Rattle.std.specs.Prelude.{nat_lt, ◌==◌, Result, Ok, Err, IfOk, slice_get}
+use Rattle.std.proofs.Common.{◌≡◌, ◌↔◌, ℕ, ◌<◌, true, List, [], sym, ap, ◌∙◌, subst, arith, Contains, ◌⊎◌, inl, inr, ⊎_elim, ◌+◌, ◌≤◌, Bool, false, cond, not, ◌∷◌, ◌++◌, length, refl, append-nil}
+use Rattle.std.specs.Prelude.{nat_lt, Result, Ok, Err, IfOk}
 use Rattle.std.specs.List.{AllByRecursion, filter, dedup}
+use Rattle.std.specs.Ordering.{nat_cmp}
 use Rattle.std.specs.List.Retain.{IsFiltered, DiffersFromLast}
 use Rattle.std.specs.List.Sorted.{IsStrictlyIncreasing, IsPermutation, IsSorted}
-use Rattle.std.specs.Ordering.{nat_cmp}
 use Rattle.std.proofs.lemmas.Bool.Decides.{nat_tests}
+use Rattle.std.proofs.lemmas.Bool.{false≢true}
 use Rattle.std.proofs.lemmas.List.Filters.{dedup_is}
-use Rattle.std.proofs.lemmas.List.Kept.{IsStrictlyIncreasing-filter, Contains-dedup_nat, Contains-from_dedup}
 use Rattle.std.proofs.lemmas.List.Sorted.{IsPermutation-sym, Contains-permutation}
+use Rattle.std.proofs.lemmas.List.Kept.{IsStrictlyIncreasing-filter, Contains-dedup_nat, Contains-from_dedup}
 use Rattle.std.proofs.lemmas.Map.Keys.{IsStrictlyIncreasing-dedup}
 use Rattle.cep_base.proofs.Elements.{all_of, contains_none, contains_first, contains_behind, contains_either, all_at, both_all}
 use Rattle.cep_graph.proofs.Made.{filter_cases, filter_there}
+use Rattle.cep_graph.specs.Queues.{Queues}
+use Rattle.cep_graph.specs.Trails.{IsTrail, IsTouchBy, HasTouched, TouchesBy}
 use lib.Dec.{eqb}
-use Rattle.std.proofs.lemmas.Bool.{false≢true}
 use Rattle.cep_term.specs.Tree.{Tree, AtomTree, IsGroundAtom, IsAtomInRange}
 use Rattle.cep_term.specs.Multiset.{gained}
+use Rattle.cep_graph.proofs.Taken.{picks_present}
 use Rattle.cep_rule.specs.declared.signature.Signature.{Signature}
 use Rattle.cep_rule.specs.declared.rule.Rule.{Rule}
 use Rattle.cep_rule.specs.Typing.{is_fact, IsTyped, AreValues}
-use Rattle.cep_rule.specs.Instances.{full_instances, full_instance}
-use Rattle.cep_cause.specs.Tokens.{Token, numbered, token_state, has_number, staying, picked_to_go}
-use Rattle.cep_cause.specs.Touches.{Touch, present_after}
-use Rattle.cep_graph.specs.Queues.{Queues}
-use Rattle.cep_graph.specs.Traces.{NumbersIncrease, AreTraced, IsTaking, TakesFor, AreFresh, MakesFor}
-use Rattle.cep_graph.specs.Trails.{IsTrail, IsTouchBy, HasTouched, TouchesBy}
-use Rattle.cep_graph.proofs.Tracing.{has_more}
-use Rattle.cep_graph.proofs.Taken.{picks_present}
-use Rattle.cep_cause.proofs.Tokened.{made_later}
-use Rattle.cep_base.proofs.Lists.{holds_at_mapped, all_from_places, all_weaker}
 use Rattle.cep_rule.specs.Patterns.{PremiseTree}
+use Rattle.cep_rule.specs.Instances.{full_instances, full_instance}
 use Rattle.cep_rule.specs.Program.{IsTypedRule}
 use Rattle.cep_rule.specs.TypeLaws.{TypeLaws}
+use Rattle.cep_cause.proofs.Tokened.{made_later}
+use Rattle.cep_cause.specs.Tokens.{Token, numbered, token_state, has_number, staying, picked_to_go}
+use Rattle.cep_cause.specs.Touches.{Touch, present_after}
+use Rattle.cep_graph.specs.Traces.{NumbersIncrease, AreTraced, IsTaking, TakesFor, AreFresh, MakesFor}
+use Rattle.cep_graph.proofs.Tracing.{has_more}
+use Rattle.cep_base.proofs.Lists.{holds_at_mapped, all_from_places, all_weaker}
 
 -- Numbers that are sorted, each once, and without 0.
 

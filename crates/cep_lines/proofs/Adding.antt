@@ -1,13 +1,15 @@
 -- A text that is added piece by piece, and lines one after another.
-use Rattle.std.proofs.Common.{◌≡◌, ℕ, List, [], ◌++◌, append_assoc, sym, ap, ◌∙◌, zero, suc, ◌+◌, ◌≤◌, ◌∷◌, length, drop, refl, add-one}
+use Rattle.std.proofs.Common.{◌≡◌, ℕ, List, [], ◌++◌, append_assoc, sym, ap, ◌∙◌, suc, ◌+◌, ◌≤◌, ◌∷◌, length, drop, refl, arith}
 use Rattle.std.proofs.lemmas.List.{append-nil, drop_all}
-use Rattle.cep_text.specs.Writing.{IsBegun}
-use Rattle.std.specs.Prelude.{slice_get, Option, Some, None, codes, decimal}
+use Rattle.std.specs.Prelude.{slice_get, Some, None, codes, decimal}
 use Rattle.std.specs.List.{flat_map}
+use Rattle.cep_text.specs.Writing.{IsBegun}
 use Rattle.std.proofs.lemmas.List.Concat.{flat_map-cons}
 use Rattle.cep_rule.specs.declared.parts.Parts.{Parts}
-use Rattle.cep_lines.specs.Lines.{stage_line, listing, header, offer_line, offer_lines}
 use Rattle.cep_rule.specs.declared.offer.Offer.{Offer}
+use Rattle.cep_lines.specs.Lines.{stage_line, listing, header, offer_line, offer_lines}
+pub use Rattle.cep_text.proofs.Nodes.{begun_first, begun_then as begun_second}
+pub use Rattle.cep_base.proofs.Drops.{drop_at}
 
 -- A text that is added piece by piece.
 
@@ -23,16 +25,11 @@ adding_none start whole left is = record { front = []; cut = is; added = sym (ap
 
 -- one piece more was added
 pub adding_next : (start whole now next left piece later : List ℕ) → IsAdding start whole now left → left ≡ piece ++ later → next ≡ now ++ piece → IsAdding start whole next later
-adding_next start whole now next left piece later so_far is more = record {
-  front = so_far.front ++ piece;
-  cut = append_assoc so_far.front piece later ∙ (ap (λ text. so_far.front ++ text) (sym is) ∙ so_far.cut);
-  added = more ∙ (ap (λ text. text ++ piece) so_far.added ∙ append_assoc start so_far.front piece);
-}
+adding_next start whole now next left piece later so_far is more = grind (arith, append_assoc)
 
 -- all was added
 pub adding_done : (start whole now left : List ℕ) → IsAdding start whole now left → left ≡ [] → now ≡ start ++ whole
-adding_done start whole now left so_far none =
-    so_far.added ∙ ap (λ text. start ++ text) (sym (append-nil so_far.front) ∙ (ap (λ text. so_far.front ++ text) (sym none) ∙ so_far.cut))
+adding_done start whole now left so_far none = grind (arith, append-nil)
 
 -- no more was added
 pub adding_stops : (start whole now left new : List ℕ) → IsAdding start whole now left → new ≡ now → IsBegun start whole new
@@ -40,45 +37,9 @@ adding_stops start whole now left new so_far same = record { front = so_far.fron
 
 -- a prefix of one piece more was added
 pub adding_breaks : (start whole now left piece later new : List ℕ) → IsAdding start whole now left → left ≡ piece ++ later → IsBegun now piece new → IsBegun start whole new
-adding_breaks start whole now left piece later new so_far is begun = record {
-  front = so_far.front ++ begun.front;
-  rest = begun.rest ++ later;
-  cut = sym so_far.cut ∙ (ap (λ text. so_far.front ++ text) (is ∙ (ap (λ text. text ++ later) begun.cut ∙ append_assoc begun.front begun.rest later))
-      ∙ sym (append_assoc so_far.front begun.front (begun.rest ++ later)));
-  added = begun.added ∙ (ap (λ text. text ++ begun.front) so_far.added ∙ append_assoc start so_far.front begun.front);
-}
-
--- a prefix of the first of two pieces was added
-pub begun_first : (start one two new : List ℕ) → IsBegun start one new → IsBegun start (one ++ two) new
-begun_first start one two new begun = record {
-  front = begun.front;
-  rest = begun.rest ++ two;
-  cut = ap (λ text. text ++ two) begun.cut ∙ append_assoc begun.front begun.rest two;
-  added = begun.added;
-}
-
--- the first of two pieces was added, and a prefix of the second
-pub begun_second : (start one two between new : List ℕ) → between ≡ start ++ one → IsBegun between two new → IsBegun start (one ++ two) new
-begun_second start one two between new first begun = record {
-  front = one ++ begun.front;
-  rest = begun.rest;
-  cut = ap (λ text. one ++ text) begun.cut ∙ sym (append_assoc one begun.front begun.rest);
-  added = begun.added ∙ (ap (λ text. text ++ begun.front) first ∙ append_assoc start one begun.front);
-}
+adding_breaks start whole now left piece later new so_far is begun = grind (arith, append_assoc)
 
 -- Lines that are written one after another.
-
-none_some : {A B : Type 0} (x : A) → ◌≡◌ {A = Option A} None (Some x) → B
-none_some x e = cc
-
--- the items from a place on are the one there and those after
-drop_at-suc : {A : Type 0} (xs : List A) (k : ℕ) (x : A) → slice_get xs k ≡ Some x → drop k xs ≡ x ∷ drop (suc k) xs
-drop_at-suc [] k x is = none_some x is
-drop_at-suc (y ∷ xs) zero x is = let same : Some y ≡ Some x = is in cc
-drop_at-suc (y ∷ xs) (suc k) x is = drop_at-suc xs k x is
-
-pub drop_at : {A : Type 0} (xs : List A) (k : ℕ) (x : A) → slice_get xs k ≡ Some x → drop k xs ≡ x ∷ drop (k + 1) xs
-drop_at xs k x is = drop_at-suc xs k x is ∙ ap (λ n. x ∷ drop n xs) (sym (add-one k))
 
 -- The lines of the items that are left begin with that of the first.
 pub lines_left : {A : Type 0} (f : A → List ℕ) (xs : List A) (k : ℕ) (x : A) → slice_get xs k ≡ Some x → flat_map f (drop k xs) ≡ f x ++ flat_map f (drop (k + 1) xs)
@@ -108,8 +69,7 @@ module _ (program : Parts) (height : ℕ) where
 
   pub header_with_stage : (out one two three four : List ℕ) → one ≡ out ++ codes "ceptre 2\nheight " → two ≡ one ++ decimal height → three ≡ two ++ 10 ∷ [] → four ≡ three ++ stage_line program program.start_stage
       → IsAdding out (header program height) four (listing program.signature program.start)
-  header_with_stage out one two three four e f g h =
-      adding_next out (header program height) three four _ (stage_line program program.start_stage) (listing program.signature program.start) (header_with_line out one two three e f g) refl h
+  header_with_stage out one two three four e f g h = grind (arith, adding_next, header_with_line out one two three e f g)
 
 -- The lines of offers, one after another.
 

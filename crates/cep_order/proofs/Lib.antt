@@ -1,4 +1,4 @@
 mod Trees
 mod Releasing
 mod SoFar
-mod OneOrder
+pub mod OneOrder

@@ -5,9 +5,9 @@ use Rattle.std.specs.List.Sorted.{IsStrictlyIncreasing}
 use Rattle.std.proofs.lemmas.Bool.{cases_eq}
 use Rattle.std.proofs.lemmas.List.Kept.{AllPairs-from_increasing}
 use Rattle.std.proofs.lemmas.Option.{slice_get_within}
+use Rattle.cep_choice.specs.Draws.{place_drawn}
 use Rattle.cep_base.proofs.Elements.{contains_none, contains_cases, contains_same, contains_behind, contains_at}
 use Rattle.cep_base.proofs.Lists.{some_same}
-use Rattle.cep_choice.specs.Draws.{place_drawn}
 use Rattle.cep_order.specs.declared.step_cause.StepCause.{StepCause}
 use Rattle.cep_order.specs.Orders.{IsTaken, AreTaken, IsOrderBy}
 
@@ -28,7 +28,7 @@ same_first x xs y ys one other here there =
 rest_same : (x : ℕ) (xs : List ℕ) (y : ℕ) (ys : List ℕ) (n : ℕ) → IsStrictlyIncreasing (x ∷ xs) → x ≡ y → (Contains (x ∷ xs) n → Contains (y ∷ ys) n) → Contains xs n → Contains ys n
 rest_same x xs y ys n increases same goes there = grind (arith, first_is_least x xs n increases there, contains_cases y ys n (goes (contains_behind x xs n there)), contains_behind x xs n there)
 
-same_increasing : (xs ys : List ℕ) → IsStrictlyIncreasing xs → IsStrictlyIncreasing ys → ((n : ℕ) → (Contains xs n ↔ Contains ys n)) → xs ≡ ys
+pub same_increasing : (xs ys : List ℕ) → IsStrictlyIncreasing xs → IsStrictlyIncreasing ys → ((n : ℕ) → (Contains xs n ↔ Contains ys n)) → xs ≡ ys
 same_increasing [] [] one other same = refl
 same_increasing [] (y ∷ ys) one other same = absurd (contains_none y ((same y).1 (contains_same y ys y refl)))
 same_increasing (x ∷ xs) [] one other same = absurd (contains_none x ((same x).0 (contains_same x xs x refl)))

@@ -1,17 +1,19 @@
 -- Those that wait for a step are released one after another.
-use Rattle.std.proofs.Common.{◌≡◌, ◌≢◌, ⊎_elim, ℕ, ◌+◌, ◌<◌, cond, eqb, List, [], ◌∷◌, ◌++◌, arith, Contains, zero, suc, ◌-◌, ◌≤◌, length, get_or, set, replicate, Some, None, refl, sym, ap, ◌∙◌, subst, length-append, length-set, ◌↔◌, ◌⊎◌, inr, Bool, true, false, map}
+use Rattle.std.proofs.Common.{◌≡◌, ◌≢◌, ⊎_elim, ℕ, ◌+◌, ◌<◌, cond, eqb, List, [], ◌∷◌, ◌++◌, arith, Contains, zero, suc, ◌-◌, ◌≤◌, length, get_or, set, replicate, Some, refl, sym, ap, ◌∙◌, subst, length-append, length-set, ◌↔◌, ◌⊎◌, inr, Bool, true, false, map}
 use Rattle.std.proofs.lemmas.Bool.{cases_eq, cases_lt, false≢true}
 use Rattle.std.proofs.lemmas.Bool.Decides.{nat_tests}
 use Rattle.std.proofs.lemmas.List.Sums.{sum_by-cons, sum_by_push}
+use Rattle.std.proofs.lemmas.Option.{slice_get_past}
 use Rattle.cep_base.proofs.Elements.{contains_none, contains_cases, contains_same, contains_behind}
 use Rattle.cep_order.specs.Waits.{times, entry_at, chain, linked_from, AreLinks, AreLinksFor, waiters_of, CanRelease, IsReleased}
 use Rattle.std.specs.Prelude.{slice_get}
 use Rattle.std.proofs.lemmas.List.{get_or_append_left, get_or_at, get_or_past, get_or-set_same, get_or-set_other}
 use Rattle.cep_base.proofs.Lists.{none_some, some_same, get_kept, get_last}
 use Rattle.cep_order.specs.declared.waits.Link.{Link}
-use Rattle.cep_order.proofs.Trees.{nothing_at}
 use Rattle.cep_order.specs.declared.waits.Waits.{Waits}
 use Rattle.cep_order.specs.Taking.{untaken, missing}
+use Rattle.cep_order.proofs.Trees.{nothing_at}
+pub use Rattle.cep_base.proofs.Options.{item_at as found}
 
 -- How often a number stands in a list.
 
@@ -52,19 +54,9 @@ stands_there number (first ∷ numbers) some =
 
 -- Links from each number to those in whose entries it stands.
 
--- what stands at a place
-pub found : {A : Type 0} (xs : List A) (n : ℕ) → n < length xs → (x : A) × (slice_get xs n ≡ Some x)
-found [] n less = absurd (omega arith)
-found (x ∷ xs) zero less = (x, refl)
-found (x ∷ xs) (suc n) less = found xs n (omega arith)
-
 -- before the last one, and past the end
 get_kept_back : {A : Type 0} (xs : List A) (x : A) (n : ℕ) → n < length xs → slice_get (xs ++ x ∷ []) n ≡ slice_get xs n
 get_kept_back xs x n less = let is = found xs n less in get_kept xs (x ∷ []) n is.0 is.1 ∙ sym is.1
-
-get_past : {A : Type 0} (xs : List A) (n : ℕ) → length xs ≤ n → slice_get xs n ≡ None
-get_past (x ∷ xs) (suc n) past = get_past xs n (omega arith)
-get_past xs n past = grind arith
 
 no_link : (most : ℕ) (links : List Link) (from : ℕ) → from ≡ 0 → chain most links from ≡ []
 no_link most links from none = grind arith
@@ -142,7 +134,7 @@ module _ (entries : List (List ℕ)) (numbers begins : List ℕ) (links : List L
         (λ apart.
         ⊎_elim
         (λ old. are.lead.back place other (sym (get_kept_back links link place old) ∙ there))
-        (λ past. none_some other (sym (get_past (links ++ link ∷ []) place (omega (arith, longer))) ∙ there))
+        (λ past. none_some other (sym (slice_get_past (links ++ link ∷ []) place (omega (arith, longer))) ∙ there))
         (cases_lt place (length links)))
         (cases_eq place (length links));
   }

@@ -2,23 +2,23 @@
 use Rattle.std.proofs.Common.{◌≡◌, ℕ, suc, ◌<◌, true, false, List, ◌∷◌, length, get_or, Some, sym, ap, ◌∙◌, arith, inl, inr, ⊎_elim, zero, ◌+◌, ◌-◌, ◌≤◌, Bool, [], subst, Contains, ◌≢◌, ◌↔◌, ◌⊎◌, ◌++◌, map, set, replicate, refl, append_assoc, append-nil, length-set}
 use Rattle.std.specs.Prelude.{slice_get}
 use Rattle.std.proofs.lemmas.Option.{slice_get-get_or}
-use Rattle.cep_base.proofs.Lists.{none_some, some_same}
-use Rattle.cep_order.specs.declared.step_cause.StepCause.{StepCause}
-use Rattle.cep_order.specs.Waits.{all_entries, entry_at, times, waiters_of, AreLinksFor, AreWaitsOf, CanRelease, IsReleased}
-use Rattle.cep_order.specs.Taking.{IsBarrierAt, IsPart, IsSoFar, untaken, missing}
 use Rattle.std.proofs.lemmas.Bool.{cases_lt, cases_eq, false≢true}
-use Rattle.std.proofs.lemmas.List.{get_or_past, length-map, get_or-set_same, get_or-set_other, map-append, get_or-replicate, length-replicate}
 use Rattle.rand_pcg.specs.Lcg.{Lcg}
+use Rattle.cep_base.proofs.Lists.{none_some, some_same}
 use Rattle.cep_base.proofs.Elements.{all_at, contains_at, map_cases}
+use Rattle.cep_order.specs.declared.step_cause.StepCause.{StepCause}
 use Rattle.cep_order.specs.declared.waits.Waits.{Waits}
+use Rattle.cep_order.specs.Taking.{IsBarrierAt, IsPart, IsSoFar, untaken, missing}
+use Rattle.cep_order.specs.Waits.{all_entries, entry_at, times, waiters_of, AreLinksFor, AreWaitsOf, CanRelease, IsReleased}
 use Rattle.cep_order.specs.Flags.{set_places}
+use Rattle.std.proofs.lemmas.List.{get_or_past, length-map, get_or-set_same, get_or-set_other, map-append, get_or-replicate, length-replicate}
 use Rattle.cep_order.specs.Orders.{NamesEarlier, PrecedesIn, IsReadyIn, AreReady, IsTaken, AreTaken, IsOrderBy, IsEachOnce}
 use Rattle.cep_order.proofs.Trees.{on_within, listed, set_there, increasing, on_or_off}
+use Rattle.cep_order.specs.declared.waits.Link.{Link}
 use Rattle.cep_order.proofs.Releasing.{found, some_times, stands_there, untaken_none, untaken_some, times_of_places, once_more_last, no_more_last, untaken_push, untaken_at_first, missing_less}
 use Rattle.std.proofs.lemmas.List.Elements.{Contains-get_or}
 use Rattle.std.proofs.lemmas.List.Quantifiers.{all_pairs_push}
 use Rattle.cep_choice.specs.Draws.{generator_behind, place_drawn}
-use Rattle.cep_order.specs.declared.waits.Link.{Link}
 
 -- Entries and barriers at places.
 

@@ -1,18 +1,18 @@
 -- Flags that are set, counted and listed, and trees of counts.
 use Rattle.std.proofs.Common.{◌≡◌, ◌⊎◌, ⊎_elim, ℕ, suc, ◌+◌, ◌<◌, ◌≤◌, Bool, true, false, cond, List, [], ◌∷◌, length, get_or, take, set, refl, sym, ap, ◌∙◌, arith, Some, zero, subst, Contains, ◌≢◌, ◌-◌, ◌*◌, ◌/◌, ◌^◌, replicate, length-set, add-one}
 use Rattle.std.specs.Prelude.{slice_get, count_by}
-use Rattle.std.proofs.lemmas.List.{length-take, get_or-take, take-set-le, take-take, take_all, get_or_past, get_or-set_same, get_or-set_other, get_or-replicate, length-replicate}
 use Rattle.std.proofs.lemmas.Bool.{cases_lt, false≢true, cases_eq}
-use Rattle.std.proofs.Math.Seq.{take-set-lt}
-use Rattle.std.proofs.lemmas.List.Sums.{sum_by-set, sum_by-cons, count_by-le-length, sum_by-take-le}
-use Rattle.cep_order.specs.Flags.{set_before, set_places_from, set_places}
-use Rattle.std.specs.List.Sorted.{IsStrictlyIncreasing}
-use Rattle.std.proofs.lemmas.List.Elements.{Contains-get_or}
-use Rattle.cep_base.proofs.Elements.{contains_none, contains_cases, contains_at}
-use Rattle.std.proofs.Math.Nat.{pow-succ', le-mul_of_pos_right}
 use Rattle.std.proofs.lemmas.Nat.{pow_pos}
-use Rattle.std.proofs.lemmas.Bool.Decides.{nat_tests}
+use Rattle.std.proofs.Math.Seq.{take-set-lt}
+use Rattle.std.proofs.lemmas.List.{length-take, get_or-take, take-set-le, take-take, take_all, get_or_past, get_or-set_same, get_or-set_other, get_or-replicate, length-replicate}
+use Rattle.std.proofs.lemmas.List.Sums.{sum_by-set, sum_by-cons, count_by-le-length, sum_by-take-le}
+use Rattle.std.specs.List.Sorted.{IsStrictlyIncreasing}
+use Rattle.cep_order.specs.Flags.{set_before, set_places_from, set_places}
 use Rattle.cep_order.specs.Counts.{Counts, only_at, IsNearly, IsTree}
+use Rattle.std.proofs.lemmas.List.Elements.{Contains-get_or}
+use Rattle.std.proofs.lemmas.Bool.Decides.{nat_tests}
+use Rattle.std.proofs.Math.Nat.{pow-succ', le-mul_of_pos_right}
+use Rattle.cep_base.proofs.Elements.{contains_none, contains_cases, contains_at}
 
 -- Flags that are set, counted and listed.
 

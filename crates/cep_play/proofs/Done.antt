@@ -4,52 +4,48 @@ use Rattle.std.specs.Prelude.{Result, IfErr, OnErr, drop, unwrap_or}
 use Rattle.std.specs.Result.{IsErrAnd}
 use Rattle.std.specs.declared.alloc.AllocError.{AllocError}
 use Rattle.std.proofs.Math.Seq.{take-length}
+use Rattle.cep_rule.specs.declared.parts.Parts.{Parts}
+use Rattle.cep_rule.specs.Program.{IsProgram}
+use Rattle.cep_ground.specs.Texts.{Spells}
 use Rattle.cep_base.specs.declared.console.ConsoleFault.{ConsoleFault}
-use Rattle.cep_base.specs.declared.console.ConsoleFault.TheVariants as faults
 use Rattle.cep_base.specs.Files.{Files, HasFile}
 use Rattle.cep_base.specs.Talk.{outs}
 use Rattle.cep_base.proofs.Did.{outs_cut}
 use Rattle.cep_base.proofs.Lists.{some_same}
-use Rattle.cep_rule.specs.declared.parts.Parts.{Parts}
-use Rattle.cep_ground.specs.Texts.{Spells}
 use Rattle.cep_words.specs.declared.options.Options.{Options}
+use Rattle.cep_words.specs.declared.request.Task.{Task}
 use Rattle.cep_words.specs.Words.{Request, Play, Examine, Dead, World, AskFor}
 use Rattle.cep_run.specs.Fronts.{BeginsSome, LeavesUnheard}
+use Rattle.cep_run.specs.declared.tally.Tally.{Tally}
+use Rattle.cep_run.specs.Said.{IsSaid, IsTally}
+use Rattle.cep_run.proofs.Framed.{outs_unheard}
 use Rattle.cep_play.specs.Exchange.{Talked, Loaded, AskedFor, Went, Wrote, IsUnread}
 use Rattle.cep_play.specs.Command.{AsksUpTo, settings_of, OfFile, IsSpelledBy}
 use Rattle.cep_play.specs.Outside.{Due, Report, report_due, code_told, Outside}
 use Rattle.cep_play.specs.Due.{IsDueOf, IsDueAtAll, IsDueUnreadOf}
+use Rattle.cep_play.specs.Reports.{Reports}
 use Rattle.cep_play.specs.Answered.{AsksAtMost, DoesWhatIsDue, IsOnShelf, EndsWith, EndsBy, ReportsBy, TellsWhatIsDue}
+use Rattle.cep_play.specs.World.{summary, IsTallied}
 use Rattle.cep_play.specs.Begun.{BeginsWhatIsDue, AsksPrefixOfAll}
+use Rattle.cep_lines.specs.declared.end_word.EndWord.{EndWord}
+use Rattle.cep_world.specs.World.{world}
 use Rattle.cep_play.specs.Outcome.{InVain, WrotePrefix, IsSomePlaySaid, IsReportOn, IsToPlay, all_read, IsPlaySaid, IsSilentRun, ReportsRun, CommandDid, ComesWith, one_unread}
 use Rattle.cep_play.proofs.Reported.{IsOneRequest, asked_due, adds_none, told_is, told_low, rose_by_all, code, ReadsOnce, one_code}
 use Rattle.cep_play.proofs.Playing.{went_map, some_dialogue, said_less, dialogue_said, rose_by_play, SomePlay, players_within, some_play, ends_with, AreThere, AreThereInRounds, some_end}
-use Rattle.cep_run.proofs.Framed.{outs_unheard}
 use Rattle.cep_base.specs.declared.limits.TheConstants.{DEFAULT_SEED}
 use Rattle.cep_base.specs.declared.console.Event.{Event}
-use Rattle.cep_lines.specs.declared.end_word.EndWord.{EndWord}
-use Rattle.cep_run.specs.declared.tally.Tally.{Tally}
-use Rattle.cep_run.specs.Run.{Turn, Ending, unproved, offers_listed}
-use Rattle.cep_run.specs.Said.{IsSaid, IsTally}
-use Rattle.cep_play.specs.World.{summary, IsTallied}
 use Rattle.cep_base.proofs.Elements.{contains_behind, contains_same}
-use Rattle.cep_rule.specs.Program.{IsProgram}
-use Rattle.cep_world.specs.World.{world}
-use Rattle.cep_words.specs.declared.request.Task.{Task}
+use Rattle.cep_run.specs.Run.{Turn, Ending, unproved, offers_listed}
 use Rattle.cep_run.specs.declared.settings.Settings.{Settings}
-use Rattle.cep_play.specs.Reports.{Reports}
+use Rattle.cep_base.specs.declared.console.ConsoleFault.TheVariants as faults
 
 -- What a command had begun where it was cut short is the beginning of something that is due of its words.
-
--- Faults
 
 pub cut_off : {T : Type 0} (answer : Result T ConsoleFault) (P R : Type 0) → OnErr answer P → IfErr answer (λ fault. InVain fault P R)
 cut_off answer P R is = grind arith
 
 pub out_of_memory : {T : Type 0} (answer : Result T ConsoleFault) (error : AllocError) (P R : Type 0) → IsErrAnd answer (λ fault. fault ≡ faults.Memory error) → R → IfErr answer (λ fault. InVain fault P R)
 out_of_memory answer error P R is nothing = grind arith
-
--- Texts
 
 module _ (words : List (List ℕ)) (talk : Talked) (loads : Loaded) where
   -- a report that is due was begun
@@ -87,8 +83,6 @@ module _ (words : List (List ℕ)) (talk : Talked) (loads : Loaded) where
         size = 1;
         names = play.asked;
       })
-
--- Where nothing was begun
 
 module _ (loads : Loaded) (held : Files) (told : loads.files ≡ Some held) (come : List ℕ) (due : Due) where
   abbrev AsksPrefix : Type 0
@@ -202,8 +196,6 @@ module _ (words : List (List ℕ)) (talk : Talked) (loads : Loaded) (ticks ticks
       }
 
 -- The status tells what is due.
-
--- Statuses
 
 abbrev pub all_statuses : List ℕ
 all_statuses = 0 ∷ 1 ∷ 2 ∷ 3 ∷ 4 ∷ 5 ∷ 6 ∷ 7 ∷ 9 ∷ []

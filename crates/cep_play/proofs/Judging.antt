@@ -5,10 +5,10 @@ use Rattle.std.specs.List.{AllByRecursion, flat_map}
 use Rattle.std.proofs.lemmas.List.{map-append, take_more, flat_map_more}
 use Rattle.cep_base.proofs.Lists.{all_pushed}
 use Rattle.cep_rule.specs.declared.parts.Parts.{Parts}
+use Rattle.cep_report.specs.ClaimLines.{claim_lines_of}
 use Rattle.cep_weigh.specs.declared.weight.Weight.{Weight}
 use Rattle.cep_weigh.specs.declared.weight.Against.{Against}
 use Rattle.cep_play.specs.declared.report.Status.{Status}
-use Rattle.cep_report.specs.ClaimLines.{claim_lines_of}
 use Rattle.cep_play.specs.Claims.{claims_code, IsJudged}
 use Rattle.cep_play.specs.Outcome.{code_of}
 use Rattle.cep_play.proofs.Reported.{Judged}

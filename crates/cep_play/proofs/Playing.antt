@@ -1,40 +1,40 @@
 -- What holds of a dialogue of one player and of several alike, that it is one, and that a transcript can have been played.
 use Rattle.std.proofs.Common.{◌≡◌, ℕ, ◌<◌, List, [], ◌∷◌, ◌++◌, refl, sym, subst, arith, Option, None, Some, inl, inr, ap, ◌∙◌, ⊎_elim}
 use Rattle.std.specs.List.{AllByRecursion}
-use Rattle.cep_base.specs.declared.console.Event.{Event}
+use Rattle.std.specs.Prelude.{Contains}
 use Rattle.cep_rule.specs.declared.parts.Parts.{Parts}
 use Rattle.cep_rule.specs.Program.{IsProgram}
-use Rattle.cep_lines.specs.declared.end_word.EndWord.{EndWord}
+use Rattle.cep_base.specs.declared.console.Event.{Event}
+use Rattle.cep_base.specs.Files.{Files, HasFile}
+use Rattle.cep_base.proofs.Lists.{some_same}
 use Rattle.cep_step.specs.Deeds.{Position}
+use Rattle.cep_lines.specs.declared.end_word.EndWord.{EndWord}
+use Rattle.cep_players.specs.Runs.{TurnOrRound, EndOfRounds}
+use Rattle.cep_players.specs.Dialogues.{DialogueInRounds}
 use Rattle.cep_words.specs.declared.options.Options.{Options}
 use Rattle.cep_words.specs.declared.run_option.RunOption.TheVariants.{Players}
+use Rattle.cep_words.specs.declared.request.Task.{Task}
+use Rattle.cep_words.specs.declared.request.Task.TheVariants.{Check}
 use Rattle.cep_words.specs.Words.{IsInBounds, asked_if, AreWithin, Request, Play, Examine, Dead, World}
+use Rattle.cep_ground.specs.Texts.{Spells}
 use Rattle.cep_run.specs.declared.settings.Settings.{Settings}
 use Rattle.cep_run.specs.declared.tally.Tally.{Tally}
 use Rattle.cep_run.specs.Run.{Turn, Ending}
 use Rattle.cep_run.specs.Dialogue.{Dialogue}
 use Rattle.cep_run.specs.Said.{IsSaid}
-use Rattle.cep_players.specs.Runs.{TurnOrRound, EndOfRounds}
-use Rattle.cep_players.specs.Dialogues.{DialogueInRounds}
 use Rattle.cep_play.specs.Exchange.{Talked, Went}
 use Rattle.cep_play.specs.Counted.{RoseByPlay}
 use Rattle.cep_play.specs.Play.{IsDialogueOf, IsDialogueDue}
+use Rattle.cep_play.specs.Command.{OfFile, settings_of}
 use Rattle.cep_play.specs.Answered.{EndsWith, ReportsBy, TellsAllThatIsDue}
 use Rattle.cep_play.specs.Outcome.{IsRunSaid, IsPlaySaid, IsSomePlaySaid}
-use Rattle.cep_base.specs.Files.{Files, HasFile}
-use Rattle.cep_base.proofs.Lists.{some_same}
-use Rattle.cep_ground.specs.Texts.{Spells}
-use Rattle.cep_world.specs.World.{world}
-use Rattle.cep_words.specs.declared.request.Task.{Task}
-use Rattle.cep_play.specs.Command.{OfFile, settings_of}
-use Rattle.cep_play.specs.Outside.{Outside, Due, Report, IsReportDue, OfText, code_told}
 use Rattle.cep_play.specs.Reports.{Reports}
-use Rattle.cep_play.specs.DeadRules.{ReportsDead}
-use Rattle.cep_play.specs.World.{ReportsWorld}
+use Rattle.cep_world.specs.World.{world}
 use Rattle.cep_play.specs.Due.{IsDueOf, IsDue}
 use Rattle.cep_play.proofs.Reported.{code, ReadsOnce, one_code, IsOneRequest}
-use Rattle.std.specs.Prelude.{Contains}
-use Rattle.cep_words.specs.declared.request.Task.TheVariants.{Check}
+use Rattle.cep_play.specs.Outside.{Outside, Due, Report, IsReportDue, OfText, code_told}
+use Rattle.cep_play.specs.DeadRules.{ReportsDead}
+use Rattle.cep_play.specs.World.{ReportsWorld}
 use Rattle.cep_log.specs.declared.log.Log.{Log}
 use Rattle.cep_log.specs.Legal.{IsLegal}
 use Rattle.cep_replay.specs.Playing.{CanBePlayed, IsReplayed}
@@ -51,8 +51,6 @@ pub said_less : (program : Parts) (settings : Settings) (P Q : List Turn → End
 said_less program settings P Q less come events rest said =
     record { turns = said.turns; ending = said.ending; dialogue = said.dialogue; holds = less said.turns said.ending said.holds; deeds = said.deeds; counted = said.counted; logged = said.logged; only = said.only; to_the_byte = said.to_the_byte }
 
--- How many play
-
 -- one plays, where nothing says how many, or some do in rounds
 abbrev pub SomePlay : Option ℕ → Type 0
 SomePlay None = Unit {0}
@@ -68,8 +66,6 @@ players_within options within = grind (arith, all_later, options.players, option
 
 pub some_play : (players : Option ℕ) → AllByRecursion IsInBounds (asked_if Players players) → SomePlay players
 some_play players within = grind arith
-
--- What is said
 
 -- a run of one player that was said is a dialogue where nothing says how many play
 pub run_said : (players : Option ℕ) (talk : Talked) (program : Parts) (settings : Settings) (ticks ticks' : ℕ) (tally : Tally) → players ≡ None
@@ -102,8 +98,6 @@ pub one_dialogue : (players : Option ℕ) (program : Parts) (settings : Settings
     → IsDialogueOf players program settings word come events rest → IsDialogueOf players program settings word' come events' rest' → (word ≡ word') × (rest ≡ rest')
 one_dialogue None program settings word word' come events events' rest rest' said said' = grind (arith, said'.only said.turns said.ending events rest said.dialogue)
 one_dialogue (Some players) program settings word word' come events events' rest rest' said said' = grind (arith, said'.only said.parts said.end word said.last events rest said.dialogue)
-
--- How it ends
 
 pub ends_with : (players : Option ℕ) (program : Parts) (settings : Settings) (word : EndWord) (come : List ℕ) (events : List Event) (rest : List ℕ)
     → IsDialogueOf players program settings word come events rest → EndsWith players program settings come word

@@ -4,36 +4,38 @@ use Rattle.std.specs.Prelude.{codes, decimal, replicate, Err, Result, Ok, IfOk, 
 use Rattle.std.specs.Option.{IsSomeAnd, option_map}
 use Rattle.std.specs.List.{AllByRecursion}
 use Rattle.std.proofs.lemmas.List.{length-replicate, append-nil}
-use Rattle.cep_base.specs.declared.limits.TheConstants.{MOST_LOG}
-use Rattle.cep_base.proofs.Lists.{holds_at}
-use Rattle.cep_base.specs.Files.{Files, HasFile, HasLongerFile}
 use Rattle.cep_rule.specs.declared.parts.Parts.{Parts}
+use Rattle.cep_graph.specs.BySeed.{IsReorderedBy}
+use Rattle.cep_base.specs.declared.limits.TheConstants.{MOST_LOG}
+use Rattle.cep_base.specs.Files.{Files, HasFile, HasLongerFile}
+use Rattle.cep_base.proofs.Lists.{holds_at}
 use Rattle.cep_refusal.specs.declared.fault.Fault.{Fault}
 use Rattle.cep_refusal.specs.declared.refusal.Refusal.{Refusal}
 use Rattle.cep_refusal.specs.Told.{Tells}
+use Rattle.cep_log.specs.Written.{text_of, IsRenewal}
 use Rattle.cep_ground.specs.Texts.{Spells}
 use Rattle.cep_ground.specs.Refusals.{IsWrong, IsRefusedFor, IsAccepted}
+use Rattle.cep_lines.specs.declared.end_word.EndWord.{EndWord}
 use Rattle.cep_log.specs.declared.log.Log.{Log}
 use Rattle.cep_log.specs.declared.fault.LogFault.{LogFault}
 use Rattle.cep_log.specs.Legal.{IsLegal}
 use Rattle.cep_log.specs.Transcript.{HasLog, HasMisfit}
-use Rattle.cep_log.specs.Written.{text_of, IsRenewal}
 use Rattle.cep_check.specs.declared.cause.Cause.{Cause}
 use Rattle.cep_check.specs.declared.cause.Verdict.{Verdict}
-use Rattle.cep_check.specs.declared.cause.Verdict.TheVariants as verdicts
 use Rattle.cep_check.specs.Causes.{IsLogRefused, IsVerdict}
 use Rattle.cep_check.specs.Telling.{verdict_text, fault_text}
 use Rattle.cep_cause.specs.Renewed.{IsTooLongRenewed}
 use Rattle.cep_cause.specs.declared.reordered.Reordered.{Reordered}
-use Rattle.cep_graph.specs.BySeed.{IsReorderedBy}
+use Rattle.cep_world.specs.World.{world}
 use Rattle.cep_weigh.specs.declared.fault.KeepFault.{KeepFault}
 use Rattle.cep_weigh.specs.declared.weight.Weight.{Weight}
 use Rattle.cep_weigh.specs.declared.weight.Against.{Against}
-use Rattle.cep_weigh.specs.Weights.{KeepsTo, AllKeepTo, IsFirstAgainst}
 use Rattle.cep_weigh.specs.Claims.{HasClaims, HasFault}
+use Rattle.cep_weigh.specs.Weights.{KeepsTo, AllKeepTo, IsFirstAgainst}
+use Rattle.cep_play.specs.Answered.{AsksAsSaid, AsksAtMost}
 use Rattle.cep_words.specs.declared.request.Task.{Task}
 use Rattle.cep_words.specs.declared.request.Task.TheVariants.{Check, Renew, Again, Weigh}
-use Rattle.cep_words.specs.declared.request.Task.TheVariants as tasks
+use Rattle.cep_words.specs.declared.options.Options.{Options}
 use Rattle.cep_play.specs.Command.{refusal_text, OfRequest, OfFile, IsProgramText, IsSpelledBy, AsksFor, AsksUpTo, usage, no_program, no_second}
 use Rattle.cep_play.specs.Outside.{Report, line_report, IsRefusal, report_due, code_told}
 use Rattle.cep_play.specs.Check.{IsLegalTranscript, Rejects, too_long_text}
@@ -41,14 +43,12 @@ use Rattle.cep_play.specs.Renew.{Renews}
 use Rattle.cep_play.specs.Again.{reordered_report, ReportsReordering}
 use Rattle.cep_play.specs.Claims.{claims_code, IsJudged, ReportsWeighing}
 use Rattle.cep_play.specs.Reports.{ReportsWhy, Reports}
-use Rattle.cep_play.specs.Outcome.{most_of, verdict_code, verdict_report, IsRenewalReport, IsLegalReport, IsLogReport, report_of, IsRead, IsFoundInText, IsFoundInFile, all_read, ReportsNone, ReportsSecond, ReportsDeadIn, AsksFile, ReportsTour, IsDueAnyway, IsReportOf, IsReportOn}
-use Rattle.cep_lines.specs.declared.end_word.EndWord.{EndWord}
-use Rattle.cep_world.specs.World.{world}
-use Rattle.cep_words.specs.declared.options.Options.{Options}
-use Rattle.cep_words.specs.Words.{Request, Play, Examine, Dead, World, AskFor, HaveNoForm}
 use Rattle.cep_play.specs.Exchange.{Talked, Loaded, loaded, IsUnread, AskedFor}
 use Rattle.cep_play.specs.Counted.{RoseByRequest, RoseByAll}
-use Rattle.cep_play.specs.Answered.{AsksAsSaid, AsksAtMost}
+use Rattle.cep_play.specs.Outcome.{most_of, verdict_code, verdict_report, IsRenewalReport, IsLegalReport, IsLogReport, report_of, IsRead, IsFoundInText, IsFoundInFile, all_read, ReportsNone, ReportsSecond, ReportsDeadIn, AsksFile, ReportsTour, IsDueAnyway, IsReportOf, IsReportOn}
+use Rattle.cep_words.specs.Words.{Request, Play, Examine, Dead, World, AskFor, HaveNoForm}
+use Rattle.cep_check.specs.declared.cause.Verdict.TheVariants as verdicts
+use Rattle.cep_words.specs.declared.request.Task.TheVariants as tasks
 use Rattle.cep_play.specs.declared.report.Report as made
 
 -- What is reported of a transcript, and what a shelf gives.
@@ -69,8 +69,6 @@ text_refused text refusal report never one_fault one_told (fault, refused, tells
   no_program = λ program spells. never text program fault spells refused.holds;
   is = is;
 }
-
--- Claims
 
 -- What is read of a second file is one: a file of claims says one list of claims, or has a fault; a transcript says one log, which comes to one answer by a seed.
 pub record ReadsOnce (program : Parts) : Type 0 where
@@ -235,8 +233,6 @@ told_is word = grind arith
 pub told_low : (word : EndWord) (code : ℕ) → code ≡ code_told word → code ≤ 5
 told_low word code is = ⊎_elim (λ zero. omega (arith, is, zero)) (λ four. omega (arith, is, four)) (told_is word)
 
--- Names
-
 pub adds_none : (told : Option (List (List ℕ))) → told ≡ option_map (λ asked. asked ++ []) told
 adds_none told = grind (arith, append-nil)
 
@@ -244,13 +240,9 @@ adds_none told = grind (arith, append-nil)
 adds_twice : (before between after : Option (List (List ℕ))) (one other : List ℕ) → between ≡ option_map (λ asked. asked ++ one ∷ []) before → after ≡ option_map (λ asked. asked ++ other ∷ []) between → after ≡ option_map (λ asked. asked ++ one ∷ other ∷ []) before
 adds_twice before between after one other first second = grind (arith, append_assoc)
 
--- Texts
-
 -- what is found in a text is found in a file that has it
 pub found_in : {E : Type 0} (loads : Loaded) (file text : List ℕ) (answer : Result (Result Parts made.Report) E) → HasFile loads.files file text → IsRead loads → IfOk answer (IsFoundInText text) → IfOk answer (IsFoundInFile loads file)
 found_in loads file text answer has read found = grind arith
-
--- Requests
 
 module _ (loads : Loaded) (ticks ticks' : ℕ) (report : Report) where
   -- a text is refused
@@ -336,8 +328,6 @@ module _ {H : Type 0} (files : H → Option Files) (asked : H → Option (List (
   examined_in_vain (Ok report) second = tt
   examined_in_vain (Err error) (inl second) = inl (inl ((is_in.0, is_in.1, (program, is_in.2.0)), both second))
   examined_in_vain (Err error) (inr none) = inl (inr (none ∙ first))
-
--- Words
 
 -- what is said of one request is said of all that the words ask for
 pub rose_by_all : (talk : Talked) (files : Option Files) (ticks ticks' : ℕ) (words : List (List ℕ)) → IsOneRequest → (request : Request) → AskFor words request → RoseByRequest talk files ticks ticks' request → RoseByAll talk files ticks ticks' words

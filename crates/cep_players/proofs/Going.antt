@@ -1,11 +1,11 @@
 -- Turns, rounds and whole runs, where they are played.
 use Rattle.std.proofs.Common.{◌≡◌, inl, inr, ℕ, zero, suc, ◌+◌, ◌<◌, ◌≤◌, Bool, true, false, List, [], ◌∷◌, ◌++◌, length, length-append, take, Option, Some, append_assoc, append-nil, refl, sym, ap, ◌∙◌, arith, map, None}
 use Rattle.cep_players.proofs.BlockedLines.{slice_get, drop, drop_of_length-le, did_map, did_same, did_then, drop_at, holds_at, item_at, Configuration, Turned, Done, Over, Event, Did, Multiset, Rule, Parts, Offer, IsOffer, own_group, IsGroupedRule, IsProgram, Position, EndWord, admitted, IsOfferDone, AreOffersDone, Settings, position_of, IsPlaced, Acts, WouldPass, IsActed, IsMoved, DoesOffer, CannotDo, IsOfferActed, IsOfferMoved, BeginsOffer, ActsSome, StopsAct, BeginsActs, turn_left, last_left, events_of_rounds, IsTrue, ◌↔◌, IsSomeAnd, IsAsked, Contains, AllByRecursion, flat_map, flat_map-append, outs, all_weaker, IsState, generator_behind, Deed, start_of, AreAdmitted, offer_lines, end_lines, header, lines_of_deed, Spent, Supply, Turn, whole_supply, EndsAt, LeavesUnheard, supply_with, put_on, left_by, hears_left, put_left, IsForAll, a_turn, of_turn, Hearing, Round, IsListedHere, IsChosenHere, a_round, of_player, of_offer, TurnOrRound, EndOfRounds, choose_line, part_events, hearing_events, blocked_lines, round_question_events, round_events, last_part_events, DialogueInRounds, IsRunInRounds, AllChoose, OneDoesNot, ChooseSome, PlayersLaws, DoesParts, EndsParts, IsWent, AreActed, AreTurnsAdded, IsWholeInRounds, IsDialogueWith, IsSomeDialogue, IsPut, Short, Joins, Maps, left_then, outs_left, text_then, prefix_left, front_of_front, Stops, DoesTurn, IsTurned, heard_left, all_left}
-pub use Rattle.cep_round.proofs.Admitted.{as_many_flags, next_admitted, next_blocked}
 use Rattle.cep_run.specs.declared.turn.Ended.{Ended}
 use Rattle.cep_run.specs.Begun.{BeginsAct, PutsFront, IsQuestionOrTurn}
-use Rattle.cep_players.proofs.RoundsThere.{stays_in_stage, then_deeds, order_more, lines_more, passes_stops, question_on, turn_on, goes_from, some_admitted, act_on, hearing_on, listed_on, parts_more, runs_after}
 use Rattle.cep_run.proofs.Turns.{whole_begun}
+use Rattle.cep_players.proofs.RoundsThere.{stays_in_stage, then_deeds, order_more, lines_more, passes_stops, question_on, turn_on, goes_from, some_admitted, act_on, hearing_on, listed_on, parts_more, runs_after}
+pub use Rattle.cep_round.proofs.Admitted.{as_many_flags, next_admitted, next_blocked}
 use Rattle.std.specs.FinMap as finite
 
 -- Offers of a round are done, one after another.
@@ -157,8 +157,6 @@ module _ {C M : Type 0} (talk : C → Option (List Event)) (left : C → Option 
       pub gone_short : Did talk left console new (BeginsOffer program settings offer (position_of config)) → Did talk left old new (BeginsActs program settings (position_of start) (admitted chosen flags))
       gone_short begun = did_then talk left old console new _ _ _ (λ come first middle second rest acts on. acts_refused program settings (position_of start) (admitted chosen flags) (position_of config) offer later gone.few come middle rest first second acts on) waiting begun
 
--- Turns
-
 module _ {program : Parts} {settings : Settings} (players : ℕ) {at : Position} (none : IsForAll program settings.height at → ⊥) (spent : Spent) where
   turn_ends : (word : EndWord) (spent' : Spent) → Maps (Stops (choose_line 1) program settings at spent word spent') (EndsParts program settings players at spent word at spent')
   turn_ends word spent' come events rest stops =
@@ -189,8 +187,6 @@ turn_went talk left old new {program} settings players config none remain counts
   omega (arith, counted, remain),
 )
 turn_went talk left old new settings players config none remain counts uncounted offers spent spent' (Over last) (stops, same, still) = rw same (did_map talk left old new _ _ (turn_ends players none spent last.word spent') stops)
-
--- Rounds
 
 module _ {program : Parts} {settings : Settings} {at : Position} {offers : List Offer} (listed : IsListedHere program settings at offers) (players : ℕ) (spent : Spent) (laws : PlayersLaws) (kept : IsProgram program) (some : 0 < players) (is_state : IsState program.signature at.spot.state) where
   abbrev Begins : List ℕ → List Event → List ℕ → Type 0
@@ -349,8 +345,6 @@ module _ (program : Parts) (settings : Settings) (players : ℕ) (start : Positi
     pub parts_refused : Joins (DoesParts program settings players start unspent here spent) (Short (λ come. supply_with come spent) (IsRunInRounds program settings players here)) (Short whole_supply (IsRunInRounds program settings players start))
     parts_refused come first middle second rest one (begun, left) =
         (rw one.written (runs_after program settings players start (whole_supply come) one.parts here (supply_with middle spent) second one.done begun), left_then come first middle second rest one.gone left)
-
--- Dialogues
 
 module _ (program : Parts) (settings : Settings) (players : ℕ) where
   -- between the header and the last lines

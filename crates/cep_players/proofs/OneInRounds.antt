@@ -23,8 +23,6 @@ module _ (one_list : (program : Parts) (height : ℕ) (state : Multiset) (group 
     (one_choice : (n taken many many' : ℕ) (come rest rest' : List ℕ) (events events' : List Event) (choice choice' : Choice) → n < 2 ^ 32 → Hears n come taken events choice rest many → Hears n come taken events' choice' rest' many' → (events ≡ events') × (choice ≡ choice') × (rest ≡ rest') × (many ≡ many'))
     (one_flags : (program : Parts) (state used : Multiset) (offers : List Offer) (one other : List Bool) → AreAdmitted program state used offers one → AreAdmitted program state used offers other → one ≡ other)
     (program : Parts) (settings : Settings) (players : ℕ) where
-  -- What is heard
-
   module _ (n : ℕ) (few : n ≤ MOST_OFFERS) where
     one_heard : (from : Supply) (events events' : List Event) (choice choice' : Choice) (to to' : Supply) → IsHeard n from events choice to → IsHeard n from events' choice' to' → (events ≡ events') × (choice ≡ choice') × (to ≡ to')
     one_heard from events events' choice choice' to to' is is' = grind (arith, from.taken, to.taken, to'.taken, from.come, to.come, to'.come, is.0, is'.0, is.1, is'.1)
@@ -105,8 +103,6 @@ module _ (one_list : (program : Parts) (height : ℕ) (state : Multiset) (group 
   one_way at deeds deeds' last last' later later' word word' does does' same = grind (arith, goes_on)
 
   module _ (at : Position) (from : Supply) where
-    -- Where all choose
-
     one_listed : (offers offers' : List Offer) → IsListedHere program settings at offers → IsListedHere program settings at offers' → offers ≡ offers'
     one_listed offers offers' listed listed' = one_list program settings.height at.spot.state (own_group at.spot.stage) offers offers' listed.offered listed'.offered
 

@@ -1,20 +1,20 @@
 -- What is done in rounds are deeds; a run in rounds is there from every position, and what is written tells its deeds.
 use Rattle.std.proofs.Common.{◌≡◌, ℕ, ◌-◌, ◌%◌, Bool, List, [], ◌∷◌, ◌++◌, map, append_assoc, append-nil, Some, IsSome, ◌↔◌, refl, sym, ap, ◌∙◌, arith, Contains, ◌⊎◌, inl, inr, zero, suc, ◌+◌, ◌<◌, ◌≤◌, true, false, length, Option, None}
 use Rattle.std.proofs.lemmas.List.{map-append, length-map}
-use Rattle.cep_players.proofs.BlockedLines.{slice_get, AllByRecursion, flat_map, flat_map-append, all_at, all_of, contains_first, contains_left, contains_right, holds_at, map_last, ProofTree, IsDerivable, quiet_here, outs, AtomTree, Multiset, Rule, Parts, Offer, IsState, Applies, IsInGroup, IsOffer, own_group, IsQuiet, Step, IsTypedRule, IsDividedRule, IsGroupedRule, IsProgram, Position, Deed, AreDeeds, EndWord, lines_of_deed, Quiet, AreAdmitted, admitted, IsRound, AreOffersDone, Settings, Supply, RoundsAreLawful, Hearing, HaveChosen, Round, IsRoundDone, TurnOrRound, a_turn, a_round, AreTurnsAndRounds, AreTogether, all_done, EndOfRounds, done_before, EndsInRounds, RunsInRounds, contains_at, all_from_places, offer_lines, left_by, deeds_counted, generator_behind, Event, count_of, IsContained, IsAsked, start_of, Limit, Passes, used_with, Turns, end_lines, header, Spent, whole_supply, Question, Turn, IsQuestion, IsTurn, AreTurns, EndsAt, supply_with, limit_word, BeginsSome, PlayersLaws, IsForAll, IsListedHere, IsChosenHere, of_turn, of_player, of_offer, CannotBeDone, hearing_events, blocked_lines, turn_question_events, round_question_events, round_events, part_events, last_part_events, DialogueInRounds, ChooseSome, IsRunInRounds, front_of_front, codes, decimal, IsOfferOf, applied_has_text, AreRemarks, TellDeeds, TellRun, Choice, Hears, chosen, AreHeard, none_chose, choose_on}
-use Rattle.cep_rule.specs.Steps.{AreProofs, stage_after}
-use Rattle.cep_round.proofs.Admitted.{each_admitted}
-use Rattle.cep_base.specs.declared.console.Event.TheVariants.{Out}
-use Rattle.std.specs.FinMap as finite
 use Rattle.std.proofs.lemmas.Bool.{cases_lt}
 use Rattle.std.proofs.lemmas.Slice.Zip.{AllZip-long}
+use Rattle.cep_rule.specs.Steps.{AreProofs, stage_after}
+use Rattle.cep_players.proofs.BlockedLines.{slice_get, AllByRecursion, flat_map, flat_map-append, all_at, all_of, contains_first, contains_left, contains_right, holds_at, map_last, ProofTree, IsDerivable, quiet_here, outs, AtomTree, Multiset, Rule, Parts, Offer, IsState, Applies, IsInGroup, IsOffer, own_group, IsQuiet, Step, IsTypedRule, IsDividedRule, IsGroupedRule, IsProgram, Position, Deed, AreDeeds, EndWord, lines_of_deed, Quiet, AreAdmitted, admitted, IsRound, AreOffersDone, Settings, Supply, RoundsAreLawful, Hearing, HaveChosen, Round, IsRoundDone, TurnOrRound, a_turn, a_round, AreTurnsAndRounds, AreTogether, all_done, EndOfRounds, done_before, EndsInRounds, RunsInRounds, contains_at, all_from_places, offer_lines, left_by, deeds_counted, generator_behind, Event, count_of, IsContained, IsAsked, start_of, Limit, Passes, used_with, Turns, end_lines, header, Spent, whole_supply, Question, Turn, IsQuestion, IsTurn, AreTurns, EndsAt, supply_with, limit_word, BeginsSome, PlayersLaws, IsForAll, IsListedHere, IsChosenHere, of_turn, of_player, of_offer, CannotBeDone, hearing_events, blocked_lines, turn_question_events, round_question_events, round_events, part_events, last_part_events, DialogueInRounds, ChooseSome, IsRunInRounds, front_of_front, codes, decimal, IsOfferOf, applied_has_text, AreRemarks, TellDeeds, TellRun, Choice, Hears, chosen, AreHeard, none_chose, choose_on}
+use Rattle.cep_round.proofs.Admitted.{each_admitted}
+use Rattle.cep_base.specs.declared.console.Event.TheVariants.{Out}
 use Rattle.cep_term.specs.BagLaws.{BagLaws}
 use Rattle.cep_run.proofs.RunThere.{interactive_or_not}
+use Rattle.cep_run.specs.Dialogue.{written_bytes}
 use Rattle.cep_players.specs.Dialogues.{choose_line, blocked_line}
 use Rattle.cep_text.specs.Texts.{offer_text}
 use Rattle.cep_log.specs.Transcript.{IsOneLine}
-use Rattle.cep_run.specs.Dialogue.{written_bytes}
 use Rattle.cep_run.proofs.Transcribed.{written_both, written_outs, no_remarks, both_remarks, said_both, said_outs, line_remark, heard_remarks, both_one, numbered_remark, offers_remarks, question_remarks}
+use Rattle.std.specs.FinMap as finite
 
 -- What is done in rounds are deeds, and within a round each admitted offer can be done where those before it were.
 

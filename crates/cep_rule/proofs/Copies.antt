@@ -5,20 +5,20 @@ use Rattle.std.specs.List.{AllByRecursion}
 use Rattle.std.specs.Ordering.{eq_by_cmp, nat_cmp, ordering_then, ordering_reverse}
 use Rattle.std.specs.FinMap.{get-entries, get-empty, get-insert, get-remove, same_map, IsAntisymmetric, nat_cmp-IsAntisymmetric, slice_cmp-IsAntisymmetric}
 use Rattle.std.specs.FinMap.Entries.{find}
-use Rattle.std.specs.FinMap as finite
+use Rattle.std.specs.declared.cmp.Ordering.TheVariants.{Less, Equal, Greater}
+use Rattle.std.specs.declared.cmp.Ordering.{Ordering}
 use Rattle.cep_term.specs.Tree.{AtomTree}
 use Rattle.cep_term.specs.Order.{atom_cmp, tree_cmp}
 use Rattle.cep_term.specs.BagLaws.{BagLaws}
 use Rattle.cep_term.specs.Multiset.{Multiset, count_of, with_count, with_one, gathered, sum_of, IsBag, IsEntry, gained}
 use Rattle.cep_base.proofs.Drops.{drop_at}
 use Rattle.cep_base.proofs.Elements.{contains_none, contains_first, contains_behind, contains_cases, all_at}
-use Rattle.std.specs.declared.cmp.Ordering.TheVariants.{Less, Equal, Greater}
-use Rattle.std.specs.declared.cmp.Ordering.{Ordering}
 use Rattle.std.specs.Cmp.{IsTotalOrder, nat_cmp_total, on_total, then_total}
 use Rattle.std.specs.Cmp.Lexicographic.{slice_cmp, lists_total}
 use Rattle.cep_rule.specs.declared.parts.Parts.{Parts}
 use Rattle.cep_rule.specs.declared.offer.Offer.{Offer}
 use Rattle.cep_rule.specs.Offers.{offer_cmp, AreOffers}
+use Rattle.std.specs.FinMap as finite
 
 -- Multisets in which each atom that is there has a copy: the counts alone say which one it is.
 
@@ -53,8 +53,7 @@ module _ (laws : BagLaws) where
   copies-sum_of bag other has = copies-added (finite.entries other) bag has
 
   pub same_counts : (one other : Multiset) → HasCopies one → HasCopies other → ((a : AtomTree) → count_of one a ≡ count_of other a) → one ≡ other
-  same_counts one other has has' same =
-      same_map laws.total laws.ties one other (λ a. same_found (finite.get one a) (finite.get other a) (has a) (has' a) (same a))
+  same_counts one other has has' same = same_map laws.total laws.ties one other (λ a. same_found (finite.get one a) (finite.get other a) (has a) (has' a) (same a))
 
 -- how much a test adds to a count
 abbrev pub one_if : Bool → ℕ
@@ -112,11 +111,7 @@ module _ {X : Type 0} (Before : X → X → Type 0) (apart : (x y : X) → Befor
 
   -- after the first elements too, each is one of the other
   among_rest : (x y : X) (xs ys : List X) → Rises (x ∷ xs) → x ≡ y → IsAmong (x ∷ xs) (y ∷ ys) → IsAmong xs ys
-  among_rest x y xs ys rises same among z there =
-      ⊎_elim (λ here. absurd (alone x z (same ∙ here) (all_at (Before x) xs z rises.0 there))) (λ later. later) (contains_cases y ys z (among z (contains_behind x xs z there)))
-    where
-      alone : (a b : X) → a ≡ b → Before a b → ⊥
-      alone a b is before = apart a b before (rw is (rw is at before))
+  among_rest x y xs ys rises same among z there = grind (arith, all_at (Before x) xs z rises.0 there, contains_cases y ys z (among z (contains_behind x xs z there)), contains_behind x xs z there, apart)
 
   -- two lists that rise and have the same elements are one
   pub same_rising : (xs ys : List X) → Rises xs → Rises ys → IsAmong xs ys → IsAmong ys xs → xs ≡ ys
@@ -131,9 +126,7 @@ module _ {X : Type 0} (Before : X → X → Type 0) (apart : (x y : X) → Befor
 -- The order of offers is total, and so the offers of a group in a state are one list.
 
 both_equal : (a b : Ordering) → ordering_then a b ≡ Equal → (a ≡ Equal) × (b ≡ Equal)
-both_equal Less b e = cc
-both_equal Equal b e = (refl, e)
-both_equal Greater b e = cc
+both_equal a b e = grind arith
 
 module _ (trees : IsTotalOrder tree_cmp) where
   pub offer_cmp_total : IsTotalOrder offer_cmp
@@ -142,16 +135,12 @@ module _ (trees : IsTotalOrder tree_cmp) where
   pub offer_cmp_ties : IsAntisymmetric tree_cmp → (one other : Offer) → offer_cmp one other ≡ Equal → one ≡ other
   offer_cmp_ties ties one other e =
       let parts = both_equal (nat_cmp one.rule other.rule) (slice_cmp tree_cmp one.values other.values) e in
-      let rules : one.rule ≡ other.rule = nat_cmp-IsAntisymmetric one.rule other.rule parts.0 in
       let values : one.values ≡ other.values = slice_cmp-IsAntisymmetric ties one.values other.values parts.1 in
-      λ i. record { rule = rules i; values = values i }
+      λ i. record { rule = (nat_cmp-IsAntisymmetric one.rule other.rule parts.0) i; values = values i }
 
   -- no two offers stand before each other
   apart : (x y : Offer) → offer_cmp x y ≡ Less → offer_cmp y x ≡ Less → ⊥
   apart x y e f = let turned : Less ≡ Greater = sym e ∙ offer_cmp_total.antisymm x y ∙ ap ordering_reverse f in cc
 
   pub one_offers : (program : Parts) (height : ℕ) (state : Multiset) (group : ℕ) (one other : List Offer) → AreOffers program height state group one → AreOffers program height state group other → one ≡ other
-  one_offers program height state group one other are are' =
-      same_rising (λ x y. offer_cmp x y ≡ Less) apart one other are.in_order are'.in_order
-      (λ x there. are'.each x (are.no_other x there))
-      (λ x there. are.each x (are'.no_other x there))
+  one_offers program height state group one other are are' = same_rising (λ x y. offer_cmp x y ≡ Less) apart one other are.in_order are'.in_order (λ x there. are'.each x (are.no_other x there)) (λ x there. are.each x (are'.no_other x there))

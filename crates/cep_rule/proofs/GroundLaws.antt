@@ -2,8 +2,7 @@
 use Rattle.std.proofs.Common.{◌≡◌, arith, inl, inr, ⊎_elim, ℕ, zero, suc, Bool, true, false, ◌&&◌, ◌||◌, List, [], ◌∷◌, refl}
 use Rattle.cep_term.specs.Tree.{Tree, Trees, AtomTree, variable, node, none, more}
 use Rattle.cep_rule.specs.Patterns.{ClauseTree}
-use Rattle.cep_rule.specs.Groundness.{Known, is_known, are_known, occurs, positions_known, known_at, known_after, known_after_all, CallsAt, Calls, LeavesUnknown, SomeFails, IsBadInRound, IsBad}
-use Rattle.cep_rule.specs.Groundness.{occurs_among}
+use Rattle.cep_rule.specs.Groundness.{Known, is_known, are_known, occurs, positions_known, known_at, known_after, known_after_all, CallsAt, Calls, LeavesUnknown, SomeFails, IsBadInRound, IsBad, occurs_among}
 
 -- What is known by the one is known by the other.
 abbrev IsWithin : Known → Known → Type 0
@@ -49,9 +48,8 @@ abbrev IsDownward : (ℕ → Known → Type 0) → Type 0
 IsDownward pairs = (pred : ℕ) (few many : Known) → IsWithin few many → pairs pred many → pairs pred few
 
 calls_at_within : (pairs : ℕ → Known → Type 0) → IsDownward pairs → (goals : List AtomTree) (few many : Known) (i : ℕ) → IsWithin few many → CallsAt pairs many goals i → CallsAt pairs few goals i
-calls_at_within pairs down [] few many i within calls = calls
-calls_at_within pairs down (goal ∷ goals) few many zero within calls = grind (arith, positions_within, goal.pred, goal.args)
 calls_at_within pairs down (goal ∷ goals) few many (suc i) within calls = grind (arith, after_within, calls_at_within pairs down goals (known_after few goal) (known_after many goal) i (after_within few many goal within) calls)
+calls_at_within pairs down goals few many i within calls = grind (arith, positions_within)
 
 calls_within : (pairs : ℕ → Known → Type 0) → IsDownward pairs → (goals : List AtomTree) (few many : Known) → IsWithin few many → Calls pairs many goals → Calls pairs few goals
 calls_within pairs down goals few many within calls = (calls.0, calls_at_within pairs down goals few many calls.0 within calls.1)
@@ -86,9 +84,8 @@ bad_within clauses pred few many within bad = (bad.0, round_within clauses bad.0
 
 -- what calls pairs of one set calls those of a set that has them
 calls_at_weaker : (one other : ℕ → Known → Type 0) → ((pred : ℕ) (positions : Known) → one pred positions → other pred positions) → (goals : List AtomTree) (known : Known) (i : ℕ) → CallsAt one known goals i → CallsAt other known goals i
-calls_at_weaker one other weaker [] known i calls = calls
-calls_at_weaker one other weaker (goal ∷ goals) known zero calls = weaker goal.pred (positions_known known goal.args) calls
 calls_at_weaker one other weaker (goal ∷ goals) known (suc i) calls = calls_at_weaker one other weaker goals (known_after known goal) i calls
+calls_at_weaker one other weaker goals known i calls = grind arith
 
 fails_weaker : (one other : ℕ → Known → Type 0) → ((pred : ℕ) (positions : Known) → one pred positions → other pred positions) → (clauses : List ClauseTree) (pred : ℕ) (positions : Known) → SomeFails clauses one pred positions → SomeFails clauses other pred positions
 fails_weaker one other weaker [] pred positions fails = fails
@@ -106,9 +103,8 @@ fails_weaker one other weaker (clause ∷ clauses) pred positions fails =
 
 -- a bad pair that is called is bad in some round
 calls_in_round : (clauses : List ClauseTree) (goals : List AtomTree) (known : Known) (i : ℕ) → CallsAt (IsBad clauses) known goals i → (round : ℕ) × CallsAt (IsBadInRound clauses round) known goals i
-calls_in_round clauses [] known i calls = absurd calls
-calls_in_round clauses (goal ∷ goals) known zero calls = calls
 calls_in_round clauses (goal ∷ goals) known (suc i) calls = calls_in_round clauses goals (known_after known goal) i calls
+calls_in_round clauses goals known i calls = grind arith
 
 fails_in_round : (clauses some : List ClauseTree) (pred : ℕ) (positions : Known) → SomeFails some (IsBad clauses) pred positions → (round : ℕ) × SomeFails some (IsBadInRound clauses round) pred positions
 fails_in_round clauses [] pred positions fails = absurd fails

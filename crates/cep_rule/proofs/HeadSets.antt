@@ -2,7 +2,7 @@
 use Rattle.std.proofs.Common.{◌≡◌, ℕ, zero, suc, ◌≤◌, Bool, true, false, List, [], ◌∷◌, ◌++◌, length, slice_get, Option, Some, None, IfSome, IsSomeAnd, refl, sym, ap, ◌∙◌, arith}
 use Rattle.std.specs.Prelude.{IsTrue}
 use Rattle.std.specs.declared.cmp.Ordering.{Ordering}
-use Rattle.std.specs.declared.cmp.Ordering.TheVariants.{Less, Equal, Greater}
+use Rattle.std.specs.declared.cmp.Ordering.TheVariants.{Equal}
 use Rattle.std.specs.Ordering.{is_gt, nat_cmp, ordering_then}
 use Rattle.std.specs.BTreeSet.{BTreeSet, contains, IsKeyRangeOf, Updates}
 use Rattle.std.specs.BTreeMap.Range.{IsLeBy}
@@ -16,9 +16,7 @@ abbrev pub IsLike : ℕ → Option ℕ → ℕ → HeadKey → Type 0
 IsLike pred first n key = (key.0 ≡ pred) × ((key.1 ≡ first) × (key.2 ≤ n))
 
 not_greater : (one other : Ordering) → is_gt (ordering_then one other) ≡ false → is_gt one ≡ false
-not_greater Less other is = refl
-not_greater Equal other is = refl
-not_greater Greater other is = is
+not_greater one other is = grind arith
 
 -- what is between two keys that differ by their numbers alone is like them
 between : (pred : ℕ) (first : Option ℕ) (from n : ℕ) (key : HeadKey) → IsLeBy head_cmp (pred, first, from) key → IsLeBy head_cmp key (pred, first, n) → IsLike pred first n key
@@ -43,8 +41,7 @@ between pred (Some c) from n (p, Some d, m) low high = let one = same_pred low h
     no_later one two high = let by_number : is_gt (nat_cmp m n) ≡ false = rw (equal p pred one, equal d c two) at high in grind arith
 
 later : (pred : ℕ) (first : Option ℕ) (from n : ℕ) → from ≤ n → IsLeBy head_cmp (pred, first, from) (pred, first, n)
-later pred None from n after = grind arith
-later pred (Some c) from n after = grind arith
+later pred first from n after = grind arith
 
 -- of the keys from one on the first is like that of a clause which begins so
 pub first_like : (clauses : List ClauseTree) (heads : BTreeSet HeadKey) (keys : List HeadKey) (pred : ℕ) (first : Option ℕ) (from n : ℕ) (Q : Type 0) → HaveHeads clauses heads → IsKeyRangeOf head_cmp (Included (pred, first, from)) Unbounded heads keys → from ≤ n

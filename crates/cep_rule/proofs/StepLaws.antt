@@ -1,48 +1,45 @@
 -- Typed instances of sides and premises, and the steps that they make.
-use Rattle.std.proofs.Common.{◌≡◌, ℕ, zero, suc, List, [], ◌∷◌, map, Some, None, unwrap_or, subst, arith, Bool, not, ◌||◌, ◌++◌, ◌⊎◌, inl, inr, ◌+◌, ◌-◌, ◌<◌, ◌≤◌, true, false, cond, Contains, refl, sym, ◌∙◌, length, ⊎_elim, ap}
+use Rattle.std.proofs.Common.{◌≡◌, ℕ, suc, List, [], ◌∷◌, map, Some, None, unwrap_or, subst, arith, Bool, not, ◌||◌, ◌++◌, ◌⊎◌, inl, inr, ◌+◌, ◌-◌, ◌<◌, ◌≤◌, true, false, cond, Contains, refl, sym, ◌∙◌, length, ⊎_elim, ap}
 use Rattle.std.specs.Prelude.{slice_get, slice_index_or, filter}
-use Rattle.cep_base.proofs.Options.{none_some, some_same, from_some, some_weaker, from_some_is}
-use Rattle.cep_term.specs.Tree.{Tree, Trees, AtomTree, variable, node, none, more, AreGround, IsGroundAtom, IsFit, IsInRange, AreInRange, IsAtomInRange, term_nodes, argument_nodes, term_depth, argument_depth, Occurs, OccursAmong}
-use Rattle.cep_term.specs.Values.{term_instance, argument_instances, value_of}
-use Rattle.cep_rule.specs.declared.signature.Con.{Con}
-use Rattle.cep_rule.specs.declared.signature.Signature.{Signature}
-use Rattle.cep_rule.specs.Typing.{HasSort, HaveSorts, IsTyped, IsValue, AreValues, is_fact, HasStatePredicate}
-use Rattle.cep_rule.specs.Instances.{given, full_instance, full_instances, kept_of, taken_by, added_by, used_by, left_of, right_of}
 use Rattle.std.specs.List.{AllByRecursion}
-use Rattle.cep_base.proofs.Elements.{both_all, all_at, all_of}
-use Rattle.cep_base.proofs.Lists.{all_filtered, holds_at, all_weaker, all_from_places}
-use Rattle.cep_rule.specs.declared.rule.Rule.{Rule}
-use Rattle.cep_rule.specs.Patterns.{PremiseTree, ClauseTree}
-use Rattle.cep_rule.specs.Binding.{needed_of, OccursInSome, IsBoundRule, IsBoundClause}
-use Rattle.cep_rule.specs.Program.{IsTypedRule, IsDividedRule, IsTypedClause, IsProgram}
 use Rattle.std.proofs.lemmas.List.{map-append}
 use Rattle.std.proofs.lemmas.Bool.{or_parts}
-use Rattle.std.specs.Ordering.{eq_by_cmp}
-use Rattle.std.specs.Cmp.{Equal-is}
+use Rattle.cep_base.proofs.Options.{none_some, some_same, from_some, some_weaker, from_some_is}
+use Rattle.cep_base.proofs.Elements.{both_all, all_at, all_of}
+use Rattle.cep_term.specs.Tree.{Tree, Trees, AtomTree, variable, node, none, more, AreGround, IsGroundAtom, IsFit, IsInRange, AreInRange, IsAtomInRange, term_nodes, argument_nodes, term_depth, argument_depth, Occurs, OccursAmong}
+use Rattle.cep_term.specs.Values.{term_instance, argument_instances, value_of}
 use Rattle.cep_term.specs.Order.{atom_cmp}
 use Rattle.cep_term.specs.BagLaws.{BagLaws}
-use Rattle.cep_term.specs.Multiset.{Multiset, count_of, gathered, sum_of, difference_of, IsContained, IsBag, held, once, IsOnce, gained, without}
-use Rattle.cep_rule.specs.State.{joined, IsState, IsStateAtom}
+use Rattle.cep_rule.specs.declared.signature.Con.{Con}
+use Rattle.cep_rule.specs.declared.signature.Signature.{Signature}
+use Rattle.cep_rule.specs.declared.rule.Rule.{Rule}
+use Rattle.cep_rule.specs.Patterns.{PremiseTree, ClauseTree}
 use Rattle.cep_rule.specs.Step.{Step}
+use Rattle.cep_rule.specs.Typing.{HasSort, HaveSorts, IsTyped, IsValue, AreValues, is_fact, HasStatePredicate}
+use Rattle.cep_rule.specs.State.{joined, IsState, IsStateAtom}
+use Rattle.cep_rule.specs.Instances.{given, full_instance, full_instances, kept_of, taken_by, added_by, used_by, left_of, right_of}
 use Rattle.cep_rule.specs.Steps.{MakesFit}
+use Rattle.cep_base.proofs.Lists.{all_filtered, holds_at, all_weaker, all_from_places}
+use Rattle.cep_rule.specs.Binding.{needed_of, OccursInSome, IsBoundRule, IsBoundClause}
 use Rattle.cep_rule.specs.Matching.{state_after}
-use Rattle.cep_rule.proofs.Copies.{HasCopies, copies-bag, copies-gathered, copies-sum_of, same_counts, one_if, count_more}
-use Rattle.std.proofs.lemmas.Option.{slice_get_within}
 use Rattle.cep_rule.specs.declared.parts.Parts.{Parts}
+use Rattle.cep_rule.specs.Program.{IsTypedRule, IsDividedRule, IsTypedClause, IsProgram}
 use Rattle.cep_rule.specs.declared.offer.Offer.{Offer}
-use Rattle.cep_rule.specs.Derivations.{ProofTree, ProofTrees, by_clause, no_goal, goal_by, IsHeadBy, Proves, ProveAll, IsDerivable}
 use Rattle.cep_rule.specs.Offers.{Applies}
+use Rattle.std.specs.Ordering.{eq_by_cmp}
+use Rattle.std.specs.Cmp.{Equal-is}
+use Rattle.std.proofs.lemmas.Option.{slice_get_within}
+use Rattle.cep_term.specs.Multiset.{Multiset, count_of, gathered, sum_of, difference_of, IsContained, IsBag, held, once, IsOnce, gained, without}
+use Rattle.cep_rule.proofs.Copies.{HasCopies, copies-bag, copies-gathered, copies-sum_of, same_counts, one_if, count_more}
+use Rattle.cep_rule.specs.Derivations.{ProofTree, ProofTrees, by_clause, no_goal, goal_by, IsHeadBy, Proves, ProveAll, IsDerivable}
 use Rattle.cep_rule.specs.Shapes.{IsSmallTerm, HasSmallValues, HaveSmallValues}
 
 -- Instances by values of the right types are ground and well typed.
 
 -- the value of a variable is a value of its type
 value_at : (cons : List Con) (kinds : List ℕ) (values : List Tree) (v sort : ℕ) (t : Tree) → AreValues cons kinds values → slice_get kinds v ≡ Some sort → IsValue cons sort (unwrap_or (slice_index_or (map Some values) v None) t)
-value_at cons [] [] v sort t are e = none_some sort e
-value_at cons [] (u ∷ values) v sort t are e = absurd are
-value_at cons (kind ∷ kinds) [] v sort t are e = absurd are
-value_at cons (kind ∷ kinds) (u ∷ values) zero sort t are e = subst (λ other. IsValue cons other u) (some_same kind sort e) are.0
 value_at cons (kind ∷ kinds) (u ∷ values) (suc v) sort t are e = value_at cons kinds values v sort t are.1 e
+value_at cons kinds values v sort t are e = grind (arith, none_some, some_same)
 
 -- Arguments are ground, and of these types.
 abbrev AreOf : List Con → List ℕ → Trees → Type 0
@@ -66,12 +63,10 @@ mutual
       ((first.ground, others.0), (first.typed, others.1))
 
 pub ground_instance : (signature : Signature) (kinds : List ℕ) (values : List Tree) (a : AtomTree) → AreValues signature.cons kinds values → IsTyped signature kinds a → IsGroundAtom (full_instance values a)
-ground_instance signature kinds values a are typed =
-    from_some (slice_get signature.preds a.pred) _ _ (λ pred h. (args_values signature.cons kinds values are a.args pred.args h).0) typed
+ground_instance signature kinds values a are typed = from_some (slice_get signature.preds a.pred) _ _ (λ pred h. (args_values signature.cons kinds values are a.args pred.args h).0) typed
 
 pub typed_instance : (signature : Signature) (kinds : List ℕ) (values : List Tree) (a : AtomTree) → AreValues signature.cons kinds values → IsTyped signature kinds a → IsTyped signature [] (full_instance values a)
-typed_instance signature kinds values a are typed =
-    some_weaker (slice_get signature.preds a.pred) _ _ (λ pred h. (args_values signature.cons kinds values are a.args pred.args h).1) typed
+typed_instance signature kinds values a are typed = some_weaker (slice_get signature.preds a.pred) _ _ (λ pred h. (args_values signature.cons kinds values are a.args pred.args h).1) typed
 
 -- The atoms of both sides of a rule by values of the right types are ground.
 
@@ -239,9 +234,7 @@ module _ (laws : BagLaws) (signature : Signature) (rule : Rule) (values : List T
       (λ is some. grind (arith, kept_count rule.premises a is, many_both rule.right (kept_of signature rule) a)) (before_count old new step a) (after_count old new step a)
 
   side_copies : (atoms : List AtomTree) (rest : Multiset) → HasCopies (joined signature (once fact (gathered atoms)) rest)
-  side_copies atoms rest =
-      laws.once_copies fact (sum_of (once fact (gathered atoms)) rest)
-      (copies-sum_of laws (once fact (gathered atoms)) rest (laws.once_copies fact (gathered atoms) (copies-gathered laws atoms)))
+  side_copies atoms rest = laws.once_copies fact (sum_of (once fact (gathered atoms)) rest) (copies-sum_of laws (once fact (gathered atoms)) rest (laws.once_copies fact (gathered atoms) (copies-gathered laws atoms)))
 
   pub one_step : (old one other : Multiset) → Step signature rule values old one → Step signature rule values old other → one ≡ other
   one_step old one other step step' =
@@ -373,17 +366,14 @@ pub atom_in_range : (signature : Signature) (kinds : List ℕ) (a : AtomTree) �
 atom_in_range signature kinds a typed = from_some (slice_get signature.preds a.pred) _ _ (λ pred h. args_in_range signature.cons kinds pred.args a.args h) typed
 
 pub as_many_values : (cons : List Con) (kinds : List ℕ) (values : List Tree) → AreValues cons kinds values → length values ≡ length kinds
-as_many_values cons [] [] are = refl
-as_many_values cons [] (t ∷ values) are = absurd are
-as_many_values cons (sort ∷ kinds) [] are = absurd are
 as_many_values cons (sort ∷ kinds) (t ∷ values) are = let rest = as_many_values cons kinds values are.1 in omega arith
+as_many_values cons kinds values are = grind arith
 
 -- The values of what applies or is proved are small: each variable occurs in an atom whose instance is fit.
 
 given_at : (values : List Tree) (v : ℕ) (u : Tree) → slice_get values v ≡ Some u → value_of (given values) v ≡ Some u
-given_at [] v u is = none_some u is
-given_at (t ∷ values) zero u is = is
 given_at (t ∷ values) (suc v) u is = given_at values v u is
+given_at values v u is = grind (arith, none_some)
 
 module _ (values : List Tree) (v : ℕ) (u : Tree) (is : value_of (given values) v ≡ Some u) where
   mutual
@@ -412,17 +402,14 @@ module _ (values : List Tree) (v : ℕ) (u : Tree) (is : value_of (given values)
       occurs
 
 values_small : (values : List Tree) (vars : ℕ) (atoms : List AtomTree) → length values ≡ vars → ((v : ℕ) → v < vars → OccursInSome v atoms) → AllByRecursion IsFit (full_instances values atoms) → AllByRecursion IsSmallTerm values
-values_small values vars atoms many occurs fit = all_from_places IsSmallTerm values
-    (λ v u is. value_small values v u (given_at values v u is) atoms (occurs v (let within = slice_get_within values v u is in omega arith)) fit)
+values_small values vars atoms many occurs fit = all_from_places IsSmallTerm values (λ v u is. value_small values v u (given_at values v u is) atoms (occurs v (let within = slice_get_within values v u is in omega arith)) fit)
 
 proved_fit : (program : Parts) (proof : ProofTree) (a : AtomTree) → Proves program proof a → IsFit a
 proved_fit program (by_clause number values subs) a proves = proves.0
 
 all_proved_fit : (program : Parts) (proofs : ProofTrees) (atoms : List AtomTree) → ProveAll program proofs atoms → AllByRecursion IsFit atoms
-all_proved_fit program no_goal [] all = tt
-all_proved_fit program no_goal (a ∷ atoms) all = absurd all
-all_proved_fit program (goal_by proof proofs) [] all = absurd all
 all_proved_fit program (goal_by proof proofs) (a ∷ atoms) all = ((proved_fit program proof a all.0), (all_proved_fit program proofs atoms all.1))
+all_proved_fit program proofs atoms all = grind arith
 
 module _ (program : Parts) (kept : IsProgram program) where
   node_small : (number : ℕ) (clause : ClauseTree) (values : List Tree) (subs : ProofTrees) (a : AtomTree) → slice_get program.clauses number ≡ Some clause → IsFit a → IsHeadBy program clause values a → ProveAll program subs (full_instances values clause.goals) → AllByRecursion IsSmallTerm values

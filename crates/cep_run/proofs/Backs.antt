@@ -1,9 +1,11 @@
 -- The backward premises of an offer that applies: they may be asked, and each has a derivation.
-use Rattle.std.proofs.Common.{◌≡◌, ⊎_elim, ℕ, zero, suc, ◌+◌, ◌<◌, Bool, true, ◌&&◌, List, [], ◌∷◌, ◌++◌, length, take, Some, refl, sym, subst, ◌∙◌, arith, Contains}
+use Rattle.std.proofs.Common.{◌≡◌, ⊎_elim, ℕ, zero, suc, ◌+◌, ◌<◌, Bool, true, List, [], ◌∷◌, ◌++◌, length, take, Some, refl, sym, subst, ◌∙◌, arith, Contains}
 use Rattle.std.specs.Prelude.{slice_get, IsSome}
 use Rattle.std.specs.List.{AllByRecursion}
 use Rattle.std.proofs.lemmas.List.{length-map}
+use Rattle.cep_run.specs.Turn.{IsProofWithin}
 use Rattle.cep_base.proofs.Lists.{none_some, some_same, holds_at, holds_at_mapped, take_next, map_last}
+use Rattle.cep_base.proofs.Bools.{and_from as both}
 use Rattle.cep_term.specs.Tree.{Tree, Trees, AtomTree, variable, node, none, more, IsGround, OccursIn, Occurs, OccursAmong, IsInRange, AreInRange, IsAtomInRange}
 use Rattle.cep_term.specs.Multiset.{Multiset}
 use Rattle.cep_term.specs.Values.{Values, value_of, atom_instance, AreGroundValues, HasValues}
@@ -15,16 +17,13 @@ use Rattle.cep_rule.specs.Patterns.{ClauseTree}
 use Rattle.cep_rule.specs.Binding.{needed_of}
 use Rattle.cep_rule.specs.Typing.{IsTyped, IsBackward, AreValues}
 use Rattle.cep_rule.specs.TypeLaws.{TypeLaws}
-use Rattle.cep_rule.specs.Groundness.{Known, nothing, is_known, are_known, positions_known, known_after, known_after_all, CallsAt, IsBad, IsGrounded}
 use Rattle.cep_rule.specs.Instances.{given, full_instance, full_instances}
+use Rattle.cep_rule.specs.Groundness.{Known, nothing, is_known, are_known, positions_known, known_after, known_after_all, CallsAt, IsBad, IsGrounded}
 use Rattle.cep_rule.specs.Derivations.{ProofTree, IsDerivable}
 use Rattle.cep_rule.specs.Offers.{Applies}
 use Rattle.cep_rule.specs.Program.{IsProgram}
 use Rattle.cep_rule.specs.Steps.{AreProofs}
 use Rattle.cep_prove.specs.Answers.{has_value, IsGoal, IsAnswer, AreAnswers, IsLowestProof}
-use Rattle.cep_run.specs.Turn.{IsProofWithin}
-
--- Values that are given
 
 pub value_given : (values : List Tree) (v : ℕ) → v < length values → IsSome (value_of (given values) v)
 value_given (t ∷ values) (suc v) within = value_given values v (omega (arith, within))
@@ -41,9 +40,6 @@ mutual
 
 pub all_valued : (values : List Tree) (a : AtomTree) → IsAtomInRange (length values) a → HasValues (given values) a
 all_valued values a within v occurs = value_given values v (occurs_among_within (length values) a.args v within occurs)
-
-both : (a b : Bool) → a ≡ true → b ≡ true → (a && b) ≡ true
-both a b p q = grind arith
 
 mutual
   term_known : (values : List Tree) (t : Tree) → IsInRange (length values) t → is_known (has_value (given values)) t ≡ true
@@ -138,8 +134,6 @@ same_goal alike program height goal known values has answer = alike values known
 -- the lowest derivation is within the height
 pub is_within : (program : Parts) (height : ℕ) (a b : AtomTree) (proof : ProofTree) → a ≡ b → IsLowestProof program proof a → IsDerivable program height b → IsProofWithin program height b proof
 is_within program height a b proof same lowest derivable = grind (arith, lowest.lowest, derivable.proof, derivable.proves, derivable.low, lowest.proves)
-
--- Derivations one after another
 
 proofs_next : (program : Parts) (height : ℕ) (proofs : List ProofTree) (atoms : List AtomTree) (proof : ProofTree) (a : AtomTree) → AreProofs program height proofs atoms → IsProofWithin program height a proof → AreProofs program height (proofs ++ proof ∷ []) (atoms ++ a ∷ [])
 proofs_next program height (p ∷ proofs) (b ∷ atoms) proof a are is = grind (arith, proofs_next program height proofs atoms proof a are.2 is)

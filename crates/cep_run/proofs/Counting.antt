@@ -1,7 +1,7 @@
 -- What deeds cost is counted one after another.
 use Rattle.std.proofs.Common.{ℕ, ◌+◌, List, [], ◌∷◌, ◌++◌, refl, arith}
-use Rattle.std.specs.Prelude.{Result, IfOk}
 use Rattle.std.proofs.lemmas.List.{map-append}
+use Rattle.std.specs.Prelude.{Result, IfOk}
 use Rattle.cep_rule.specs.declared.parts.Parts.{Parts}
 use Rattle.cep_rule.specs.Matching.{RoseBy}
 use Rattle.cep_step.specs.Deeds.{Deed}
@@ -20,11 +20,7 @@ module _ (may_edit : Edits) (program : Parts) (height : ℕ) where
   -- the counter rose by what some turns cost, and then by what one more costs
   pub counted_behind : (turns : List Turn) (turn : Turn) (old between new : ℕ) → RoseBy (AreDeedCosts may_edit program height (deeds_of turns)) old between → RoseBy (IsDeedCost may_edit program height turn.deed) between new
       → RoseBy (AreDeedCosts may_edit program height (deeds_of (turns ++ turn ∷ []))) old new
-  counted_behind turns turn old between new so one = record {
-    ticks = so.ticks + one.ticks;
-    allows = rw map-append (costs_behind (deeds_of turns) turn.deed so.ticks one.ticks so.allows one.allows);
-    risen = omega (arith, so.risen, one.risen);
-  }
+  counted_behind turns turn old between new so one = record { ticks = so.ticks + one.ticks; allows = rw map-append (costs_behind (deeds_of turns) turn.deed so.ticks one.ticks so.allows one.allows); risen = omega (arith, so.risen, one.risen) }
 
   -- nothing was done yet
   pub counted_nothing : (steps : ℕ) → RoseBy (AreDeedCosts may_edit program height []) steps steps

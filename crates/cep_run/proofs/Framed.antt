@@ -1,36 +1,35 @@
 -- What is said between a header and last lines, what begins such a whole, and what is heard of it.
 use Rattle.std.proofs.Common.{◌≡◌, ℕ, List, [], ◌∷◌, ◌++◌, length, take, append_assoc, append-nil, Option, refl, sym, ap, ◌∙◌, subst, arith, ◌+◌, ◌<◌, ◌≤◌, inl, inr, zero, suc}
 use Rattle.std.specs.List.{flat_map}
+use Rattle.std.specs.Prelude.{Bool, false, IsTrue, ◌↔◌, drop}
+use Rattle.std.proofs.lemmas.Bool.{cases_lt}
+use Rattle.cep_log.specs.Holding.{lines_of_deed}
 use Rattle.cep_base.specs.declared.console.Event.{Event}
 use Rattle.cep_base.specs.declared.console.Event.TheVariants.{Out, In, End}
 use Rattle.cep_base.specs.Talk.{outs, ins, GoesOn, Did}
+use Rattle.cep_base.specs.Spelling.{IsUnbroken}
 use Rattle.cep_rule.specs.declared.parts.Parts.{Parts}
 use Rattle.cep_rule.specs.declared.offer.Offer.{Offer}
-use Rattle.cep_choice.specs.TypedLine.{Cut, Ended, Last, Nothing, Full, ReadsLine, IsLine, IsCutShort}
 use Rattle.cep_lines.specs.declared.end_word.EndWord.{EndWord}
 use Rattle.cep_lines.specs.Lines.{offer_lines}
-use Rattle.cep_log.specs.Holding.{lines_of_deed}
+use Rattle.cep_choice.specs.TypedLine.{Cut, Ended, Last, Nothing, Full, ReadsLine, IsLine, IsCutShort}
+use Rattle.cep_choice.specs.Draws.{generator_behind, place_drawn}
+use Rattle.cep_step.specs.Deeds.{Position, Deed}
+use Rattle.cep_run.specs.Run.{whole_supply, Question, Turn, IsQuestion, IsTurn, AreTurns}
 use Rattle.cep_run.specs.declared.choice.Choice.{Choice}
 use Rattle.cep_run.specs.declared.deciding.Spent.{Spent}
 use Rattle.cep_run.specs.declared.settings.Settings.{Settings}
+use Rattle.cep_run.proofs.TurnSteps.{LeftBy, left_by}
 use Rattle.cep_run.specs.Choice.{room_after, no_line, Hears, chosen, again, no_more, no_room}
-use Rattle.cep_run.specs.Deciding.{Supply, How, Heard, Lone, Drawn, Decides, IsPlayers}
-use Rattle.cep_step.specs.Deeds.{Position, Deed}
-use Rattle.cep_run.specs.Run.{whole_supply, Question, Turn, IsQuestion, IsTurn, AreTurns}
-use Rattle.cep_run.specs.Dialogue.{asking_line, asked_events, last_asked, last_events, turn_events}
 use Rattle.cep_run.specs.Fronts.{BeginsSome, heard_bytes, LeavesUnheard}
+use Rattle.cep_run.specs.Deciding.{Supply, How, Heard, Lone, Drawn, Decides, IsPlayers}
+use Rattle.cep_run.specs.declared.choice.Choice.TheVariants.{Place, NoMore, NoRoom}
+use Rattle.cep_run.specs.Dialogue.{asking_line, asked_events, last_asked, last_events, turn_events}
 use Rattle.cep_run.specs.Begun.{PutsFront, BeginsAct, HearsSome, AsksSome, SettlesSome}
 use Rattle.cep_run.specs.Turn.{Settles, SoFar, IsWholeRun, AsksPlayer, HasSpent, supply_with}
-use Rattle.cep_run.proofs.TurnSteps.{LeftBy, left_by}
 use Rattle.cep_run.proofs.Hearing.{HearsFront, line_cut, answer_cut, behind_bad}
-use Rattle.std.specs.Prelude.{Bool, false, IsTrue, ◌↔◌, drop}
-use Rattle.std.proofs.lemmas.Bool.{cases_lt}
 use Rattle.cep_base.specs.declared.limits.TheConstants.{MOST_TYPED}
-use Rattle.cep_choice.specs.Draws.{generator_behind, place_drawn}
-use Rattle.cep_run.specs.declared.choice.Choice.TheVariants.{Place, NoMore, NoRoom}
-use Rattle.std.proofs.lemmas.List.{take-append-drop, map-append}
-use Rattle.cep_base.specs.Spelling.{IsUnbroken}
-use Rattle.cep_base.proofs.Did.{did_same, did_put, did_map, did_then}
+use Rattle.cep_base.proofs.Did.{did_same, did_put, did_map, did_then, outs_cut}
 use Rattle.cep_run.proofs.HearsThere.{chooses_or_not, HasLine, one_more, one_more-says, line_there, hears_there}
 
 -- What is heard of a choice, a turn and a run is gone from the bytes to come.
@@ -47,8 +46,6 @@ Joins P Q R = (come : List ℕ) (first : List Event) (middle : List ℕ) (second
 
 abbrev pub Maps : (P Q : List ℕ → List Event → List ℕ → Type 0) → Type 0
 Maps P Q = (come : List ℕ) (events : List Event) (rest : List ℕ) → P come events rest → Q come events rest
-
--- Events
 
 pub heard_append : (first others : List Event) → heard_bytes (first ++ others) ≡ heard_bytes first ++ heard_bytes others
 heard_append [] others = refl
@@ -94,13 +91,8 @@ put_left text come events rest put = outs_left (take put.size text) come events 
 bytes_left : (bytes come : List ℕ) (events : List Event) (rest : List ℕ) → heard_bytes events ≡ bytes → come ≡ bytes ++ rest → LeavesUnheard come events rest
 bytes_left bytes come events rest heard first = first ∙ ap (λ all. all ++ rest) (sym heard)
 
--- Choices
-
 line_left : (room : ℕ) (come : List ℕ) (events : List Event) (cut : Cut) (rest : List ℕ) (taken : ℕ) → ReadsLine room come events cut rest taken → LeavesUnheard come events rest
-line_left room come events (Ended line) rest taken is = bytes_left (line ++ 10 ∷ []) come events rest (ap heard_bytes is.3 ∙ ins_heard (line ++ 10 ∷ [])) (is.0 ∙ sym (append_assoc line (10 ∷ []) rest))
-line_left room come events (Last line) rest taken is = bytes_left line come events rest (ap heard_bytes is.5 ∙ heard_append (ins line) (End ∷ []) ∙ append-nil (heard_bytes (ins line)) ∙ ins_heard line) (is.0 ∙ sym (ap (λ bytes. line ++ bytes) is.1 ∙ append-nil line))
-line_left room come events Nothing rest taken is = bytes_left [] come events rest (ap heard_bytes is.3) (is.0 ∙ sym is.1)
-line_left room come events (Full bytes) rest taken is = bytes_left bytes come events rest (ap heard_bytes is.3 ∙ ins_heard bytes) is.0
+line_left room come events cut rest taken is = grind (arith, bytes_left, ins_heard, append_assoc, heard_append, append-nil)
 
 -- a line that chose nothing, its answer, and what was heard after it
 bad_left : (come between rest : List ℕ) (first others events : List Event) → LeavesUnheard come first between → LeavesUnheard between others rest → events ≡ first ++ (outs no_line ++ others) → LeavesUnheard come events rest
@@ -124,13 +116,10 @@ module _ (n : ℕ) where
   front_left {come} {taken} {events} {rest} (behind_bad cut line between more first others reads is none behind whole) =
       bad_left come between rest first others events (line_left (room_after taken) come first cut between more reads) (front_left behind) whole
 
--- Questions, turns and runs
-
 module _ (asking : List ℕ) (program : Parts) (seed stage group : ℕ) (offers : List Offer) where
   pub decides_left : (from : Supply) (how : How) (choice : Choice) (to : Supply) → Decides program seed stage group (length offers) from how choice to → LeavesUnheard from.come (asked_events asking program offers how) to.come
   decides_left from (Heard events) choice to decides = text_then (offer_lines program 1 offers ++ asking) from.come _ from.come events to.come (refl, refl) (hears_left (length offers) decides.1)
-  decides_left from Lone choice to decides = outs_left (offer_lines program 1 offers) from.come (outs (offer_lines program 1 offers)) to.come (refl, ap (λ (supply : Supply). supply.come) decides.3)
-  decides_left from Drawn choice to decides = outs_left (offer_lines program 1 offers) from.come (outs (offer_lines program 1 offers)) to.come (refl, ap (λ (supply : Supply). supply.come) decides.3)
+  decides_left from how choice to decides = outs_left (offer_lines program 1 offers) from.come (outs (offer_lines program 1 offers)) to.come (refl, ap (λ (supply : Supply). supply.come) decides.3)
 
   pub settles_left : (old : Spent) (choice : Choice) (new : Spent) → Maps (Settles asking program seed stage group offers old choice new) LeavesUnheard
   settles_left old choice new come events rest settles = rw settles.whole (decides_left _ settles.how choice _ settles.decides)
@@ -198,8 +187,7 @@ nobody P asked iff is p = let set = iff.1 p in cc
 pub player_spends : (seed turns : ℕ) (old : Spent) (taken : ℕ) → HasSpent seed turns old → taken ≤ MOST_TYPED → HasSpent seed (turns + 1) (record old { taken = taken })
 player_spends seed turns old taken spent within = record { taken = within; drawn = let few = spent.drawn in omega (arith, few); draw = spent.draw }
 
-pub unasked_spends : (seed turns n place : ℕ) (old new : Spent) → 0 < n → HasSpent seed turns old
-    → (n ≡ 1 → (place ≡ 1) × (new ≡ old))
+pub unasked_spends : (seed turns n place : ℕ) (old new : Spent) → 0 < n → HasSpent seed turns old → (n ≡ 1 → (place ≡ 1) × (new ≡ old))
     → (1 < n → (seed : ℕ) → old.draw ≡ generator_behind seed old.drawn → (place ≡ place_drawn seed old.drawn n) × (new ≡ record { taken = old.taken; drawn = old.drawn + 1; draw = generator_behind seed (old.drawn + 1) }))
     → HasSpent seed (turns + 1) new
 unasked_spends seed turns n place old new some spent lone drawn = grind (arith, cases_lt, spent.draw, spent.taken, spent.drawn)
@@ -214,12 +202,6 @@ nothing_spent seed turns spent untaken undrawn fresh = grind (arith, untaken, un
 pub front_of_front : {A B : Type 0} (P : A → List Event → B → Type 0) (from : A) (events more : List Event) → BeginsSome P from (events ++ more) → BeginsSome P from events
 front_of_front P from events more front = record { more = more ++ front.more; left = front.left; whole = subst (λ es. P from es front.left) (append_assoc events more front.more) front.whole }
 
--- Texts
-
--- what is written of a text, and what is missing
-pub outs_cut : (size : ℕ) (text : List ℕ) → outs (take size text) ++ outs (drop size text) ≡ outs text
-outs_cut size text = sym (map-append Out (take size text) (drop size text)) ∙ ap outs (take-append-drop size text)
-
 pub put_on : (text come : List ℕ) (events : List Event) (rest : List ℕ) → PutsFront text come events rest → (more : List Event) × (events ++ more ≡ outs text)
 put_on text come events rest put = (outs (drop put.size text), ap (λ es. es ++ outs (drop put.size text)) put.said ∙ outs_cut put.size text)
 
@@ -232,8 +214,6 @@ module _ {C : Type 0} (talk : C → Option (List Event)) (left : C → Option (L
   -- nothing was put
   pub did_nothing : (console : C) (text : List ℕ) → Did talk left console console (PutsFront text)
   did_nothing console text = did_map talk left console console _ (PutsFront text) (λ come events rest same. record { size = 0; said = same.0; untaken = same.1 }) (did_same talk left console console refl refl)
-
--- Lines
 
 -- A line is read whose first bytes are these.
 record ReadsOn (room : ℕ) (bytes come : List ℕ) : Type 0 where
@@ -271,14 +251,7 @@ module _ (n : ℕ) where
   cut_on come taken (Full bytes) events rest more reads = record { more = []; left = rest; whole = (NoRoom, taken + more, subst (λ es. Hears n come taken es NoRoom rest (taken + more)) (sym (append-nil events)) (no_room bytes more reads refl)) }
 
   short_on : (come : List ℕ) (taken : ℕ) (events : List Event) (rest : List ℕ) → IsCutShort (room_after taken) come events rest → BeginsSome (HearsSome n taken) come events
-  short_on come taken events rest short =
-      let on = reads_on (room_after taken) short.bytes rest short.unbroken short.short in
-      let line = on.line in
-      let reads : ReadsLine (room_after taken) come line.events line.cut line.rest line.taken = subst (λ from. ReadsLine (room_after taken) from line.events line.cut line.rest line.taken) (sym short.first) line.reads in
-      let front = cut_on come taken line.cut line.events line.rest line.taken reads in
-      let said : line.events ++ front.more ≡ events ++ (on.more ++ front.more) =
-      ap (λ es. es ++ front.more) (on.says ∙ ap (λ es. es ++ on.more) (sym short.said)) ∙ append_assoc events on.more front.more in
-      record { more = on.more ++ front.more; left = front.left; whole = (front.whole.0, front.whole.1, subst (λ es. Hears n come taken es front.whole.0 front.left front.whole.1) said front.whole.2) }
+  short_on come taken events rest short = grind (arith, reads_on (room_after taken) short.bytes rest short.unbroken short.short, cut_on, append_assoc)
 
   -- a choice that was cut short is a prefix of one that is heard
   pub hears_on : {come : List ℕ} {taken : ℕ} {events : List Event} {rest : List ℕ} → HearsFront n come taken events rest → BeginsSome (HearsSome n taken) come events
@@ -290,8 +263,6 @@ module _ (n : ℕ) where
   hears_on {come} {taken} {events} {rest} (behind_bad cut line between more first others reads is none behind whole) =
       let later = hears_on behind in
       record { more = later.more; left = later.left; whole = (later.whole.0, later.whole.1, again cut line between more first (others ++ later.more) reads is none later.whole.2 (rw (whole, append_assoc first (outs no_line ++ others), append_assoc (outs no_line) others) refl)) }
-
--- Questions
 
 module _ (text : List ℕ) (n taken : ℕ) where
   -- the text was put, and a choice was heard
@@ -307,9 +278,7 @@ module _ (text : List ℕ) (n taken : ℕ) where
 
   -- the text was put, and a prefix of a choice was heard
   pub hears_behind : Joins (IsPut text) (Short (λ come. come) (HearsSome n taken)) (Short (λ come. come) (AsksSome text n taken))
-  hears_behind come first middle others rest put (begun, left) =
-      let (choice, all, hears) = begun.whole in
-      (record { more = begun.more; left = begun.left; whole = (choice, all, rw (append_assoc first others begun.more) (asks_after choice all come first middle (others ++ begun.more) begun.left put hears)) }, text_then text come first middle others rest put left)
+  hears_behind come first middle others rest put (begun, left) = grind (arith, append_assoc first others begun.more, asks_after, text_then text come first middle others rest put left, begun.whole, begun.more, begun.left)
 
 module _ (asking : List ℕ) (program : Parts) (seed stage group : ℕ) (offers : List Offer) (old : Spent) where
   -- the player was asked
@@ -345,8 +314,7 @@ module _ (head : List ℕ) (Whole : List ℕ → List Event → List ℕ → Typ
 
   -- the header was put, and what comes after it was refused
   pub run_refused : {A B : Type 0} (from : List ℕ → A) (P : A → List Event → B → Type 0) (rest_of : B → List ℕ) → ((come : List ℕ) (run : List Event) (left : B) → P (from come) run left → Whole come (outs head ++ run) (rest_of left)) → Joins (IsPut head) (Short from P) (Short (λ come. come) Whole)
-  run_refused from P rest_of made come first middle second rest put (begun, left) =
-      (record { more = begun.more; left = rest_of begun.left; whole = rw (append_assoc first second begun.more, put.0) (made come (second ++ begun.more) begun.left (rw (sym put.1) begun.whole)) }, text_then head come first middle second rest put left)
+  run_refused from P rest_of made come first middle second rest put (begun, left) = grind (arith, append_assoc first second begun.more, text_then head come first middle second rest put left, begun.more, begun.left, put.0, put.1, begun.whole)
 
   module _ (tail : List ℕ) (Run : List ℕ → List Event → List ℕ → Type 0) (made : (come : List ℕ) (run : List Event) (rest : List ℕ) → Run come run rest → Whole come (outs head ++ (run ++ outs tail)) rest) where
     -- a run, and then the last lines

@@ -2,13 +2,13 @@
 use Rattle.std.proofs.Common.{◌≡◌, ℕ, ◌+◌, List, [], ◌∷◌, ◌++◌, append_assoc, take, Option, refl, sym, ap, ◌∙◌, subst}
 use Rattle.cep_base.specs.declared.console.Event.{Event}
 use Rattle.cep_base.specs.Talk.{outs, GoesOn, Did}
-use Rattle.cep_choice.specs.declared.reading.Said.{Said}
-use Rattle.cep_choice.specs.declared.reading.Said.TheVariants as said
-use Rattle.cep_run.specs.declared.choice.Choice.{Choice}
-use Rattle.cep_run.specs.declared.choice.Choice.TheVariants as choice
-use Rattle.cep_choice.specs.TypedLine.{Cut, ReadsLine, IsLine, ChoosesNone, IsHeardAs, IsCutShort}
-use Rattle.cep_run.specs.Choice.{Hears, chosen, again, no_more, no_room, room_after, no_line}
 use Rattle.cep_base.proofs.Did.{did_same, did_put, did_then, did_map}
+use Rattle.cep_choice.specs.declared.reading.Said.{Said}
+use Rattle.cep_choice.specs.TypedLine.{Cut, ReadsLine, IsLine, ChoosesNone, IsHeardAs, IsCutShort}
+use Rattle.cep_run.specs.declared.choice.Choice.{Choice}
+use Rattle.cep_run.specs.Choice.{Hears, chosen, again, no_more, no_room, room_after, no_line}
+use Rattle.cep_choice.specs.declared.reading.Said.TheVariants as said
+use Rattle.cep_run.specs.declared.choice.Choice.TheVariants as choice
 
 -- The events of one choice among n that was cut short: in the reading of a line, or in the answer to a line that chooses nothing.
 pub data HearsFront (n : ℕ) : List ℕ → ℕ → List Event → List ℕ → Type 0 where
@@ -100,8 +100,6 @@ nothing_before n start come events rest same = record {
   goes_on = λ {later} {result} {end} {all} hears. rw same.0 (rw same.1 at hears);
   goes_short = λ {later} {end} hears. rw same.0 (rw same.1 at hears);
 }
-
--- What the console did
 
 module _ {C : Type 0} (talk : C → Option (List Event)) (left : C → Option (List ℕ)) where
   pub await_first : (n start : ℕ) (old : C) → Did talk left old old (Awaits n start start)

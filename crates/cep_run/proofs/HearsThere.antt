@@ -11,8 +11,6 @@ use Rattle.cep_run.specs.declared.choice.Choice.TheVariants.{Place, NoMore, NoRo
 use Rattle.cep_choice.specs.TypedLine.{Chooses, ChoosesNone, Cut, Ended, Last, Nothing, Full, ReadsLine, IsLine}
 use Rattle.cep_run.specs.Choice.{IsChoiceWithin, room_after, no_line, Hears, chosen, again, no_more, no_room}
 
--- Which place a line chooses
-
 -- the line spells this number, and maybe one CR after it
 abbrev Spells : List ℕ → ℕ → Type 0
 Spells line place = (line ≡ decimal place) ⊎ (line ≡ decimal place ++ 13 ∷ [])
@@ -30,12 +28,7 @@ none_more n line none other place chooses = grind (arith, cases_eq place (suc n)
 -- a line chooses a place among n, or none
 pub chooses_or_not : (n : ℕ) (line : List ℕ) → ((place : ℕ) × Chooses n line place) ⊎ ChoosesNone n line
 chooses_or_not zero line = inr (λ place chooses. omega (arith, chooses.0, chooses.1))
-chooses_or_not (suc n) line = elim (chooses_or_not n line) [
-  | inl some ↦ inl (some.0, (some.1.0, omega (arith, some.1.1), some.1.2))
-  | inr none ↦ elim (spells_or_not line (suc n)) [ inl spells ↦ inl (suc n, (omega arith, omega arith, spells)) | inr other ↦ inr (none_more n line none other) ]
-]
-
--- One line
+chooses_or_not (suc n) line = grind (arith, spells_or_not line (suc n), none_more, chooses_or_not n line)
 
 -- a line is read from the bytes to come, where room bytes may be taken
 pub record HasLine (room : ℕ) (come : List ℕ) : Type 0 where
@@ -89,8 +82,6 @@ line_there (suc room) (byte ∷ come) = elim (cases_eq byte 10) [
   | inr other ↦ (let line = line_there room come in one_more room byte come other line.cut line.events line.rest line.taken line.reads)
 ]
 
--- One choice
-
 -- a choice among n is heard from the bytes to come, after those that were taken
 pub record HasHearing (n : ℕ) (come : List ℕ) (taken : ℕ) : Type 0 where
   pub events : List Event
@@ -139,5 +130,4 @@ hears_there n come taken = hears_within n (length come + 1) come taken (omega ar
 pub heard_within : (n : ℕ) {come rest : List ℕ} {taken taken' : ℕ} {events : List Event} {choice : Choice} → Hears n come taken events choice rest taken' → IsChoiceWithin n choice
 heard_within n (chosen cut line more reads is chooses many) = (chooses.0, chooses.1)
 heard_within n (again cut line between more first others reads is none hears whole) = heard_within n hears
-heard_within n (no_more more reads many) = tt
-heard_within n (no_room bytes more reads many) = tt
+heard_within n given = tt

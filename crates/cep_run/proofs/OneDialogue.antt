@@ -2,36 +2,35 @@
 use Rattle.std.proofs.Common.{◌≡◌, ◌⊎◌, ℕ, ◌<◌, ◌^◌, List, [], ◌∷◌, length, map, inl, inr, refl, sym, ap, ◌∙◌, subst, arith, Option, None, Some}
 use Rattle.cep_term.specs.Tree.{Tree}
 use Rattle.cep_term.specs.Multiset.{Multiset}
+use Rattle.cep_step.specs.Deeds.{Position, start_of}
+use Rattle.cep_step.specs.declared.limit.Limit.{Limit}
+use Rattle.cep_step.specs.Passing.{Passes}
 use Rattle.cep_rule.specs.declared.signature.Signature.{Signature}
 use Rattle.cep_rule.specs.declared.rule.Rule.{Rule}
 use Rattle.cep_rule.specs.declared.parts.Parts.{Parts}
 use Rattle.cep_rule.specs.declared.offer.Offer.{Offer}
 use Rattle.cep_rule.specs.State.{Fits}
+use Rattle.cep_rule.specs.Step.{Step}
 use Rattle.cep_rule.specs.Offers.{AreOffers}
 use Rattle.cep_rule.specs.Stages.{IsAsked, IsQuiet}
-use Rattle.cep_rule.specs.Step.{Step}
 use Rattle.cep_rule.specs.Steps.{Spot, StepsTo, AreProofs}
+use Rattle.cep_rule.specs.Derivations.{ProofTree}
 use Rattle.cep_run.specs.declared.choice.Choice.{Choice}
 use Rattle.cep_run.specs.declared.choice.Choice.TheVariants.{NoMore, NoRoom}
+use Rattle.cep_run.specs.declared.settings.Settings.{Settings}
+use Rattle.cep_run.proofs.OneReading.{one_hearing}
 use Rattle.cep_lines.specs.declared.end_word.EndWord.{EndWord}
 use Rattle.cep_lines.specs.declared.end_word.EndWord.TheVariants.{Quiet, Turns, Offers, Input, Typed}
-use Rattle.cep_run.specs.declared.settings.Settings.{Settings}
-use Rattle.cep_run.specs.Deciding.{Supply, How, Heard, Decides}
-use Rattle.cep_step.specs.Deeds.{Position, start_of}
-use Rattle.cep_step.specs.declared.limit.Limit.{Limit}
-use Rattle.cep_step.specs.declared.limit.Limit.TheVariants as limit
-use Rattle.cep_step.specs.Passing.{Passes}
-use Rattle.cep_base.specs.declared.limits.TheConstants.{MOST_OFFERS}
-use Rattle.cep_run.specs.Run.{Question, Turn, Ending, IsQuestion, IsChosen, IsTurn, AreTurns, EndsAt, Run, unproved, whole_supply}
-use Rattle.cep_run.specs.Turn.{limit_word, IsOfferedHere}
-use Rattle.cep_run.proofs.OneReading.{one_hearing}
-use Rattle.cep_run.proofs.TurnSteps.{steps_here, counted_here}
 use Rattle.std.specs.List.{AllByRecursion}
+use Rattle.cep_run.specs.Deciding.{Supply, How, Decides}
+use Rattle.cep_run.specs.Turn.{limit_word, IsOfferedHere}
+use Rattle.cep_run.proofs.TurnSteps.{steps_here, counted_here}
+use Rattle.cep_base.specs.declared.limits.TheConstants.{MOST_OFFERS}
 use Rattle.cep_base.specs.declared.console.Event.{Event}
-use Rattle.cep_rule.specs.Derivations.{ProofTree}
-use Rattle.cep_rule.specs.Instances.{full_instances}
+use Rattle.cep_base.proofs.Lists.{holds_at}
 use Rattle.cep_run.specs.Dialogue.{Dialogue}
-use Rattle.cep_run.proofs.Turns.{all_at}
+use Rattle.cep_run.specs.Run.{Question, Turn, Ending, IsQuestion, IsChosen, IsTurn, AreTurns, EndsAt, Run, unproved, whole_supply}
+use Rattle.cep_step.specs.declared.limit.Limit.TheVariants as limit
 
 -- What is typed, and the seed, determine the run.
 
@@ -43,16 +42,13 @@ one_group program height state stage group other asked asked' = grind arith
 quiet_or_asked : (program : Parts) (height : ℕ) (state : Multiset) (stage group : ℕ) → IsQuiet program height state stage → IsAsked program height state stage group → ⊥
 quiet_or_asked program height state stage group none asked = grind arith
 
--- Decisions
-
 pub record SameDecision (how how' : How) (choice choice' : Choice) (to to' : Supply) : Type 0 where
   pub hows : how ≡ how'
   pub choices : choice ≡ choice'
   pub supplies : to ≡ to'
 
 one_decision : (program : Parts) (seed stage group n : ℕ) → n < 2 ^ 32 → (from : Supply) (how how' : How) (choice choice' : Choice) (to to' : Supply) → Decides program seed stage group n from how choice to → Decides program seed stage group n from how' choice' to' → SameDecision how how' choice choice' to to'
-one_decision program seed stage group n small from (Heard events) (Heard events') choice choice' to to' is is' = let same = one_hearing n small is.1 is'.1 in grind (arith, same.said, same.choices, same.left, same.many, is.2, is'.2)
-one_decision program seed stage group n small from how how' choice choice' to to' is is' = grind arith
+one_decision program seed stage group n small from how how' choice choice' to to' is is' = grind (arith, one_hearing)
 
 -- two choices are of the same offer, of the same rule
 record SameChoice (offer offer' : Offer) (rule rule' : Rule) : Type 0 where
@@ -95,14 +91,7 @@ module _ (one_list : (program : Parts) (height : ℕ) (state : Multiset) (group 
     pub lefts : turn.left ≡ turn'.left
 
   pub one_turn : (at : Position) (from : Supply) (turn turn' : Turn) → IsTurn program settings at from turn → IsTurn program settings at from turn' → SameTurn turn turn'
-  one_turn at from turn turn' is is' =
-      let asked = one_question at from turn.question turn'.question turn.left turn'.left is.asks is'.asks in
-      let one = turn.deed in
-      let other = turn'.deed in
-      let chosen = one_choice program turn.question one.offer other.offer one.rule other.rule is.chosen (rw asked.questions is'.chosen) in
-      let spots = one_spot one.rule one.offer.values at.spot one.after.spot other.after.spot (steps_here program settings at from turn is) (rw (chosen.rules, chosen.offers) (steps_here program settings at from turn' is')) in
-      let afters : one.after ≡ other.after = grind (arith, spots, counted_here program settings at from turn is, counted_here program settings at from turn' is') in
-      record { turns = grind (arith, asked.questions, asked.supplies, chosen.offers, chosen.rules, is.here, is'.here, afters); afters = afters; lefts = asked.supplies }
+  one_turn at from turn turn' is is' = grind (arith, one_question, one_choice, one_spot, steps_here, counted_here)
 
   -- a step that is done passes no limit
   pub done_or_passes : {X : Type 0} (rule : Rule) (values : List Tree) (old new : Spot) (passed : Limit) → StepsTo program rule values old new → Passes program.signature rule values old.state passed → X
@@ -152,10 +141,7 @@ module _ (one_list : (program : Parts) (height : ℕ) (state : Multiset) (group 
   one_unasked at word word' is is' = grind (arith, quiet_or_asked program settings.height at.spot.state at.spot.stage)
 
   one_nowhere : (at : Position) (question : Question) (word word' : EndWord) → Nowhere at question word → Nowhere at question word' → word ≡ word'
-  one_nowhere at question word word' (inr (inr (passed, offer, rule, named, chosen, passes))) (inr (inr (passed', offer', rule', named', chosen', passes'))) =
-      let same = one_choice program question offer' offer rule' rule chosen' chosen in
-      grind (arith, named, named', one_limit rule offer.values at.spot.state passed passed' passes (rw (same.rules, same.offers) at passes'))
-  one_nowhere at question word word' is is' = grind arith
+  one_nowhere at question word word' is is' = grind (arith, one_choice, one_limit)
 
   -- where a turn is done, no run ends
   pub turn_or_end : {X : Type 0} (at : Position) (from : Supply) (turn : Turn) (word : EndWord) (asked : Option Question) (to : Supply) → IsTurn program settings at from turn → EndsAt program settings at from word asked to → X
@@ -181,13 +167,7 @@ module _ (one_list : (program : Parts) (height : ℕ) (state : Multiset) (group 
   one_way at from word word' asked asked' to to' (inl (none, left, unasked)) (inl (none', left', unasked')) = record { words = one_unasked at word word' unasked unasked'; questions = none ∙ sym none'; supplies = left ∙ sym left' }
   one_way at from word word' asked asked' to to' (inl (none, left, unasked)) (inr (question, there, asks, nowhere)) = asked_or_ends at from question to' word asks unasked
   one_way at from word word' asked asked' to to' (inr (question, there, asks, nowhere)) (inl (none, left, unasked)) = asked_or_ends at from question to word' asks unasked
-  one_way at from word word' asked asked' to to' (inr (question, there, asks, nowhere)) (inr (question', there', asks', nowhere')) =
-      let same = one_question at from question question' to to' asks asks' in
-      record {
-        words = one_nowhere at question word word' nowhere (subst (λ (q : Question). Nowhere at q word') (sym same.questions) nowhere');
-        questions = there ∙ ap Some same.questions ∙ sym there';
-        supplies = same.supplies;
-      }
+  one_way at from word word' asked asked' to to' (inr (question, there, asks, nowhere)) (inr (question', there', asks', nowhere')) = grind (arith, one_question, one_nowhere)
 
   pub one_end : (at : Position) (from : Supply) (word word' : EndWord) (asked asked' : Option Question) (to to' : Supply) → EndsAt program settings at from word asked to → EndsAt program settings at from word' asked' to' → SameEnd word word' asked asked' to to'
   one_end at from word word' asked asked' to to' ends ends' = one_way at from word word' asked asked' to to' (way at from ends) (way at from ends')
@@ -202,8 +182,7 @@ module _ (one_list : (program : Parts) (height : ℕ) (state : Multiset) (group 
       → AreTurns program settings at from turns last between → AreTurns program settings at from turns' last' between'
       → EndsAt program settings last between word asked to → EndsAt program settings last' between' word' asked' to'
       → SameRun turns turns' last last' word word' asked asked' to to'
-  one_run_of at from [] [] last last' between between' word word' asked asked' to to' done done' ends ends' =
-      record { turns_are = refl; lasts = done.0 ∙ sym done'.0; end = one_end at from word word' asked asked' to to' (rw (← done.0, ← done.1) ends) (rw (← done'.0, ← done'.1) ends') }
+  one_run_of at from [] [] last last' between between' word word' asked asked' to to' done done' ends ends' = grind (arith, one_end, done.0, done'.0, done.1, done'.1)
   one_run_of at from [] (turn' ∷ turns') last last' between between' word word' asked asked' to to' done done' ends ends' = turn_or_end at from turn' word asked to done'.0 (rw (← done.0, ← done.1) ends)
   one_run_of at from (turn ∷ turns) [] last last' between between' word word' asked asked' to to' done done' ends ends' = turn_or_end at from turn word' asked' to' done.0 (rw (← done'.0, ← done'.1) ends')
   one_run_of at from (turn ∷ turns) (turn' ∷ turns') last last' between between' word word' asked asked' to to' done done' ends ends' =
@@ -213,9 +192,7 @@ module _ (one_list : (program : Parts) (height : ℕ) (state : Multiset) (group 
 
   -- one run: the same turns but for derivations, the same ending, and the same supply left
   pub one_run : (at : Position) (from : Supply) (turns turns' : List Turn) (ending ending' : Ending) (to to' : Supply) → Run program settings at from turns ending to → Run program settings at from turns' ending' to' → (map unproved turns ≡ map unproved turns') × (ending ≡ ending') × (to ≡ to')
-  one_run at from turns turns' ending ending' to to' run run' =
-      let same = one_run_of at from turns turns' run.last run'.last run.between run'.between ending.word ending'.word ending.question ending'.question to to' run.done run'.done run.ends run'.ends in
-      (same.turns_are, grind (arith, same.end.words, same.end.questions, same.lasts, run.state, run'.state), same.end.supplies)
+  one_run at from turns turns' ending ending' to to' run run' = grind (arith, one_run_of)
 
 -- A run is told in one way but for its derivations, and in one way where no rule has a backward premise.
 
@@ -239,11 +216,7 @@ module _ (program : Parts) (settings : Settings) (one : IsOneRun program setting
   module _ (plain : AllByRecursion (λ rule. rule.backs ≡ []) program.rules) where
     -- a turn has no derivations
     bare_turn : (at : Position) (from : Supply) (turn : Turn) → IsTurn program settings at from turn → unproved turn ≡ turn
-    bare_turn at from turn is =
-        let none = all_at (λ rule. rule.backs ≡ []) program.rules plain turn.deed.offer.rule turn.deed.rule is.chosen.of_rule in
-        let proofs = no_proofs program settings.height turn.deed.proofs (subst (λ atoms. AreProofs program settings.height turn.deed.proofs (full_instances turn.deed.offer.values atoms)) none is.does.step.proved) in
-        let same = sym proofs in
-        λ i. record turn { deed = record turn.deed { proofs = same i } }
+    bare_turn at from turn is = grind (arith, holds_at, no_proofs)
 
     bare_turns : (at : Position) (from : Supply) (turns : List Turn) (last : Position) (to : Supply) → AreTurns program settings at from turns last to → map unproved turns ≡ turns
     bare_turns at from [] last to done = refl

@@ -1,8 +1,8 @@
 -- What is typed for one choice is heard in one way.
 use Rattle.std.proofs.Common.{◌≡◌, ℕ, ◌+◌, ◌<◌, ◌≤◌, ◌^◌, List, [], ◌∷◌, ◌++◌, length, length-append, refl, sym, ap, ◌∙◌, subst, arith}
 use Rattle.std.proofs.lemmas.List.{append-nil, append_cancel_right}
-use Rattle.std.proofs.Math.Seq.{take-append_seam, drop-append_seam}
 use Rattle.std.proofs.lemmas.Str.Parse.{digit_from_value}
+use Rattle.std.proofs.Math.Seq.{take-append_seam, drop-append_seam}
 use Rattle.std.proofs.lemmas.Fmt.{decimal_is_IsNumeral, decimal_injective}
 use Rattle.std.specs.Fmt.{decimal}
 use Rattle.std.specs.Str.Parse.{AllDigits}
@@ -10,10 +10,8 @@ use Rattle.cep_base.specs.Spelling.{IsUnbroken}
 use Rattle.cep_base.specs.declared.console.Event.{Event}
 use Rattle.cep_run.specs.declared.choice.Choice.{Choice}
 use Rattle.cep_run.specs.declared.choice.Choice.TheVariants.{Place}
-use Rattle.cep_choice.specs.TypedLine.{Chooses, ChoosesNone, Cut, Ended, Last, Nothing, Full, ReadsLine, IsLine}
 use Rattle.cep_run.specs.Choice.{room_after, Hears, chosen, again, no_more, no_room}
-
--- One line
+use Rattle.cep_choice.specs.TypedLine.{Chooses, ChoosesNone, Cut, Ended, Last, Nothing, Full, ReadsLine, IsLine}
 
 -- two lines that end at their LFs in the same bytes are the same
 same_line : (line other rest behind : List ℕ) → IsUnbroken line → IsUnbroken other → line ++ 10 ∷ rest ≡ other ++ 10 ∷ behind → (line ≡ other) × (rest ≡ behind)
@@ -84,8 +82,6 @@ one_reading room come (Last line) (Full bytes) {rest' = more} reads reads' = abs
 one_reading room come (Full bytes) (Last line) {rest = more} reads reads' = absurd (within_or_full room come line bytes more reads'.0 reads'.4 reads.0 reads.2)
 one_reading room come Nothing (Full bytes) {rest' = more} reads reads' = absurd (within_or_full room come [] bytes more reads.0 reads.2 reads'.0 reads'.2)
 one_reading room come (Full bytes) Nothing {rest = more} reads reads' = absurd (within_or_full room come [] bytes more reads'.0 reads'.2 reads.0 reads.2)
-
--- One choice
 
 -- a CR is no digit
 digits_or_CR : (digits : List ℕ) → AllDigits 10 (digits ++ 13 ∷ []) → ⊥

@@ -1,8 +1,10 @@
 -- A choice, a step, a turn and a run are there, whatever is typed, and what a turn says begins some run.
 use Rattle.std.proofs.Common.{◌⊎◌, inl, ℕ, ◌<◌, ◌≤◌, List, [], ◌∷◌, arith, ◌≡◌, inr, ◌+◌, true, Option, refl, sym, ap, ◌∙◌, Some, zero, suc, ◌-◌, length, None, ◌++◌, append_assoc}
 use Rattle.std.specs.List.{AllByRecursion, flat_map}
+use Rattle.std.specs.Prelude.{slice_get, IsSomeAnd}
 use Rattle.std.proofs.lemmas.Bool.{cases_lt, cases_eq}
 use Rattle.cep_base.specs.declared.limits.TheConstants.{MOST_NODES, MOST_DEPTH, MOST_COPIES, MOST_STATE_NODES, MOST_OFFERS}
+use Rattle.cep_base.proofs.Lists.{holds_at}
 use Rattle.cep_term.specs.Tree.{Tree, AtomTree, IsFit, atom_nodes, atom_depth}
 use Rattle.cep_term.specs.Multiset.{Multiset, gathered, copies_in, nodes_in_all, IsContained}
 use Rattle.cep_rule.specs.declared.signature.Signature.{Signature}
@@ -13,38 +15,37 @@ use Rattle.cep_rule.specs.Typing.{AreValues}
 use Rattle.cep_rule.specs.Instances.{left_of, taken_by, added_by, full_instances}
 use Rattle.cep_rule.specs.State.{IsState, Fits}
 use Rattle.cep_rule.specs.Derivations.{ProofTree, IsDerivable}
-use Rattle.cep_rule.specs.Offers.{AreOffers, IsOffer, Applies}
+use Rattle.cep_rule.specs.Offers.{AreOffers, IsOffer}
 use Rattle.cep_rule.specs.Step.{Step}
 use Rattle.cep_rule.specs.Steps.{MakesFit, AreProofs, Spot, stage_after, IsMachineStep}
 use Rattle.cep_rule.specs.Matching.{state_after}
 use Rattle.cep_rule.specs.Program.{IsTypedRule, IsDividedRule, IsProgram}
-use Rattle.cep_choice.specs.Draws.{place_drawn}
-use Rattle.std.specs.Prelude.{slice_get, IsSomeAnd}
 use Rattle.cep_rule.specs.declared.parts.Stage.{Stage}
+use Rattle.cep_choice.specs.Draws.{place_drawn}
 use Rattle.cep_rule.specs.Stages.{own_group, IsAsked, leaving_group, HasOffer, IsQuiet}
 use Rattle.cep_run.specs.declared.choice.Choice.{Choice}
 use Rattle.cep_run.specs.declared.choice.Choice.TheVariants.{Place, NoMore, NoRoom}
+use Rattle.cep_run.specs.declared.settings.Settings.{Settings}
 use Rattle.cep_run.specs.Choice.{IsChoiceWithin}
 use Rattle.cep_run.specs.Deciding.{Supply, How, Heard, Lone, Drawn, IsPlayers, Decides}
 use Rattle.cep_run.proofs.HearsThere.{hears_there, heard_within}
-use Rattle.cep_base.proofs.Lists.{holds_at}
 use Rattle.cep_step.specs.Deeds.{Position, Deed, IsDeed}
 use Rattle.cep_step.specs.declared.limit.Limit.{Limit}
-use Rattle.cep_step.specs.declared.limit.Limit.TheVariants as limit
 use Rattle.cep_step.specs.Passing.{Passes}
-use Rattle.cep_run.proofs.TurnSteps.{in_turn, lawful_step, counted_here, limit_end, steps_here}
+use Rattle.cep_log.specs.Holding.{lines_of_deed}
+use Rattle.cep_run.proofs.TurnSteps.{in_turn, counted_here, limit_end, steps_here}
+use Rattle.cep_run.specs.Turn.{limit_word}
 use Rattle.std.proofs.lemmas.Option.{slice_get_within, get_or_from_slice_get}
 use Rattle.cep_base.proofs.Elements.{contains_none, contains_first}
+use Rattle.cep_base.proofs.Options.{item_at}
+use Rattle.cep_base.specs.Talk.{outs}
 use Rattle.cep_lines.specs.declared.end_word.EndWord.{EndWord}
 use Rattle.cep_lines.specs.declared.end_word.EndWord.TheVariants.{Quiet, Input, Turns, Offers, Typed}
-use Rattle.cep_run.specs.declared.settings.Settings.{Settings}
-use Rattle.cep_run.specs.Turn.{limit_word}
-use Rattle.cep_run.specs.Run.{Question, Turn, Ending, IsQuestion, IsChosen, IsTurn, EndsAt, quiet_end, turns_end, offers_end, input_end, typed_end, Run}
-use Rattle.cep_base.specs.Talk.{outs}
 use Rattle.cep_lines.specs.Lines.{end_lines}
+use Rattle.cep_run.specs.Run.{Question, Turn, Ending, IsQuestion, IsChosen, IsTurn, EndsAt, quiet_end, turns_end, offers_end, input_end, typed_end, Run}
 use Rattle.cep_run.specs.Dialogue.{question_events, last_events, turn_events, events_of}
-use Rattle.cep_log.specs.Holding.{lines_of_deed}
 use Rattle.cep_run.specs.Fronts.{BeginsSome, IsRunOf}
+use Rattle.cep_step.specs.declared.limit.Limit.TheVariants as limit
 
 -- Where an offer applies its step is there, and what proves its backward premises is there too.
 
@@ -76,8 +77,6 @@ pub record ThereLaws : Type 0 where
 pub there_laws : LeadToStates → ListsAreThere → EditsAreSteps → PlacesAreWithin → ThereLaws
 there_laws lead lists edit places = record { lead = lead; lists = lists; edit = edit; places = places }
 
--- Limits can be told
-
 atom_fits_or_not : (a : AtomTree) → IsFit a ⊎ (IsFit a → ⊥)
 atom_fits_or_not a = grind (arith, cases_lt MOST_NODES (atom_nodes a), cases_lt MOST_DEPTH (atom_depth a))
 
@@ -87,8 +86,6 @@ all_fit_or_not (a ∷ atoms) = grind (arith, atom_fits_or_not a, all_fit_or_not 
 
 pub state_fits_or_not : (state : Multiset) → Fits state ⊎ (Fits state → ⊥)
 state_fits_or_not state = grind (arith, cases_lt MOST_COPIES (copies_in state), cases_lt MOST_STATE_NODES (nodes_in_all state))
-
--- Derivations
 
 -- atoms that are derivable have derivations
 pub proofs_there : (program : Parts) (height : ℕ) (atoms : List AtomTree) → AllByRecursion (IsDerivable program height) atoms → (proofs : List ProofTree) × AreProofs program height proofs atoms
@@ -162,15 +159,7 @@ offer_done edits program height at group offer kept is_state asked is =
 
 -- From every position a run is there, whatever is typed.
 
--- something stands at each place of a list
-at_place : {A : Type 0} (xs : List A) (k : ℕ) → k < length xs → (x : A) × (slice_get xs k ≡ Some x)
-at_place [] k within = absurd (omega (arith, within))
-at_place (x ∷ xs) zero within = (x, refl)
-at_place (x ∷ xs) (suc k) within = at_place xs k (omega (arith, within))
-
 module _ (laws : ThereLaws) (program : Parts) (settings : Settings) (kept : IsProgram program) where
-  -- What a stage asks
-
   -- the stage asks a group, which has some offers
   record AsksSome (state : Multiset) (stage : ℕ) : Type 0 where
     group : ℕ
@@ -194,8 +183,6 @@ module _ (laws : ThereLaws) (program : Parts) (settings : Settings) (kept : IsPr
           | inr quiet ↦ inr (none, quiet)
         ]
       ]
-
-  -- One turn
 
   -- a turn is done here, and leads to a state
   record HasTurn (at : Position) (from : Supply) : Type 0 where
@@ -221,49 +208,30 @@ module _ (laws : ThereLaws) (program : Parts) (settings : Settings) (kept : IsPr
     to : Supply
     ends : EndsAt program settings at from word asked to
 
+  -- a turn leads from a state to a state
+  state_behind : (at : Position) (from : Supply) (turn : Turn) → IsTurn program settings at from turn → IsState program.signature at.spot.state → IsState program.signature turn.deed.after.spot.state
+  state_behind at from turn is is_state = grind (arith, steps_here, holds_at)
+
   module _ (at : Position) (from : Supply) (is_state : IsState program.signature at.spot.state) (question : Question) (left : Supply) (asks : IsQuestion program settings at from question left) where
-    -- the step by an offer that is chosen and applies is done, or it passes a limit
-    step_or_end : (place : ℕ) (offer : Offer) → question.choice ≡ Place (place + 1) → slice_get question.offers place ≡ Some offer → Applies program settings.height at.spot.state offer → LeadsOn at from question ⊎ LeadsOut at from question left
-    step_or_end place offer is at_place applies =
-        let signature = program.signature in
-        let rule = applies.rule in
-        let values = offer.values in
-        let state = at.spot.state in
-        let typed = holds_at (IsTypedRule signature) program.rules offer.rule rule kept.typed_rules applies.numbered in
-        let divided = holds_at (IsDividedRule signature) program.rules offer.rule rule kept.divided_rules applies.numbered in
-        let chosen : IsChosen program question offer rule = record { place = place; chosen = is; at_place = at_place; of_rule = applies.numbered } in
-        let next = state_after signature state (gathered (taken_by signature rule values)) (added_by signature rule values) in
-        let step : Step signature rule values state next = laws.edit signature rule values state typed applies.values is_state applies.contained in
-        let passing : (passed : Limit) → Passes signature rule values state passed → LeadsOut at from question left = λ passed passes. record { word = limit_word passed; ends = limit_end program settings at from left question offer rule asks chosen passed passes } in
-        let proofs = proofs_there program settings.height (full_instances values rule.backs) applies.derivable in
-        elim (all_fit_or_not (full_instances values rule.right)) [
-          | inr large ↦ inr (passing limit.Atom large)
-          | inl fit ↦ elim (state_fits_or_not next) [
-            | inr full ↦ inr (passing limit.State (fit, (next, step, full)))
-            | inl fits ↦ inl (record {
-              turn = record { question = question; deed = record { before = at; offer = offer; rule = rule; proofs = proofs.0; after = record { spot = record { stage = stage_after rule at.spot.stage; state = next }; turns = at.turns + 1 } }; left = left };
-              is = record {
-                here = refl;
-                asks = asks;
-                chosen = chosen;
-                does = record {
-                  step = lawful_step program settings at from question left asks offer rule proofs.0 (record { stage = stage_after rule at.spot.stage; state = next }) chosen proofs.1 (record { fit = fit; step = step; fits = fits; stage = refl });
-                  counted = refl;
-                };
-              };
-              state = laws.lead signature rule values state next typed divided applies.values is_state fit step;
-              of_question = refl;
-            })
-          ]
-        ]
+    -- the step by an offer that is chosen is done, or it passes a limit
+    step_or_end : (place : ℕ) (offer : Offer) → question.choice ≡ Place (place + 1) → slice_get question.offers place ≡ Some offer → IsOffer program settings.height at.spot.state question.group offer → LeadsOn at from question ⊎ LeadsOut at from question left
+    step_or_end place offer is at_place is_offer = elim (offer_done laws.edit program settings.height at question.group offer kept is_state asks.asked is_offer) [
+      | inl done ↦ (
+          let turn : Turn = record { question = question; deed = done.0; left = left } in
+          let goes : IsTurn program settings at from turn = record { here = done.1; asks = asks; chosen = record { place = place; chosen = is; at_place = rw done.2 at_place; of_rule = done.3.step.numbered }; does = done.3 } in
+          inl (record { turn = turn; is = goes; state = state_behind at from turn goes is_state; of_question = refl }))
+      | inr passes ↦
+          let chosen : IsChosen program question offer passes.0 = record { place = place; chosen = is; at_place = at_place; of_rule = passes.2 } in
+          inr (record { word = limit_word passes.1; ends = limit_end program settings at from left question offer passes.0 asks chosen passes.1 passes.3 })
+    ]
 
     pub by_choice : (choice : Choice) → question.choice ≡ choice → IsChoiceWithin (length question.offers) choice → LeadsOn at from question ⊎ LeadsOut at from question left
     by_choice NoMore is within = inr (record { word = Input; ends = input_end asks is })
     by_choice NoRoom is within = inr (record { word = Typed; ends = typed_end asks is })
     by_choice (Place place) is within =
-        let there = at_place question.offers (place - 1) (omega (arith, within.0, within.1)) in
+        let there = item_at question.offers (place - 1) (omega (arith, within.0, within.1)) in
         let is_offer : IsOffer program settings.height at.spot.state question.group there.0 = asks.offered.no_other there.0 (place - 1, slice_get_within question.offers (place - 1) there.0 there.1, get_or_from_slice_get question.offers (place - 1) there.0 there.0 there.1) in
-        step_or_end (place - 1) there.0 (is ∙ ap Place (omega (arith, within.0))) there.1 is_offer.applies
+        step_or_end (place - 1) there.0 (is ∙ ap Place (omega (arith, within.0))) there.1 is_offer
 
   turn_or_end : (at : Position) (from : Supply) → IsState program.signature at.spot.state → at.turns ≤ settings.limit → HasTurn at from ⊎ HasEnd at from
   turn_or_end at from is_state within = elim (asks_or_quiet at.spot.state at.spot.stage is_state) [
@@ -284,8 +252,6 @@ module _ (laws : ThereLaws) (program : Parts) (settings : Settings) (kept : IsPr
     ]
   ]
 
-  -- Whole runs
-
   pub record HasRun (at : Position) (from : Supply) : Type 0 where
     pub turns : List Turn
     pub ending : Ending
@@ -296,12 +262,7 @@ module _ (laws : ThereLaws) (program : Parts) (settings : Settings) (kept : IsPr
   ends_here at from end = record { turns = []; ending = record { word = end.word; state = at.spot.state; question = end.asked }; to = end.to; run = record { last = at; between = from; done = (refl, refl); ends = end.ends; state = refl } }
 
   goes_on : (at : Position) (from : Supply) (turn : Turn) → IsTurn program settings at from turn → HasRun turn.deed.after turn.left → HasRun at from
-  goes_on at from turn is later = record {
-    turns = turn ∷ later.turns;
-    ending = later.ending;
-    to = later.to;
-    run = record { last = later.run.last; between = later.run.between; done = (is, later.run.done); ends = later.run.ends; state = later.run.state };
-  }
+  goes_on at from turn is later = record { turns = turn ∷ later.turns; ending = later.ending; to = later.to; run = record { last = later.run.last; between = later.run.between; done = (is, later.run.done); ends = later.run.ends; state = later.run.state } }
 
   run_within : (most : ℕ) (at : Position) (from : Supply) → IsState program.signature at.spot.state → at.turns ≤ settings.limit → settings.limit ≤ at.turns + most → HasRun at from
   run_within zero at from is_state within few = elim (turn_or_end at from is_state within) [ inr end ↦ ends_here at from end | inl turn ↦ absurd (omega (arith, few, turn.is.asks.remain)) ]
@@ -328,9 +289,7 @@ decided_within laws program seed stage group n from how choice to decides = grin
 module _ (laws : ThereLaws) (program : Parts) (settings : Settings) (kept : IsProgram program) where
   turn_on : (at : Position) (from : Supply) (turn : Turn) → IsTurn program settings at from turn → IsState program.signature turn.deed.after.spot.state → BeginsSome (IsRunOf program settings at) from (turn_events program turn)
   turn_on at from turn is state =
-      let remain = is.asks.remain in
-      let counted = counted_here program settings at from turn is in
-      let later = run_there laws program settings kept turn.deed.after turn.left state (omega (arith, remain, counted)) in
+      let later = run_there laws program settings kept turn.deed.after turn.left state (omega (arith, is.asks.remain, (counted_here program settings at from turn is))) in
       let run : Run program settings at from (turn ∷ later.turns) later.ending later.to = record { last = later.run.last; between = later.run.between; done = (is, later.run.done); ends = later.run.ends; state = later.run.state } in
       let end = last_events program later.ending.question ++ outs (end_lines program.signature later.ending.word later.ending.state) in
       record {
@@ -339,17 +298,8 @@ module _ (laws : ThereLaws) (program : Parts) (settings : Settings) (kept : IsPr
         whole = (turn ∷ later.turns, later.ending, run, sym (append_assoc (turn_events program turn) (flat_map (turn_events program) later.turns) end));
       }
 
-  -- a turn leads from a state to a state
-  state_behind : (at : Position) (from : Supply) (turn : Turn) → IsTurn program settings at from turn → IsState program.signature at.spot.state → IsState program.signature turn.deed.after.spot.state
-  state_behind at from turn is is_state =
-      let deed = turn.deed in
-      let steps = steps_here program settings at from turn is in
-      let typed = holds_at (IsTypedRule program.signature) program.rules deed.offer.rule deed.rule kept.typed_rules is.chosen.of_rule in
-      let divided = holds_at (IsDividedRule program.signature) program.rules deed.offer.rule deed.rule kept.divided_rules is.chosen.of_rule in
-      laws.lead program.signature deed.rule deed.offer.values at.spot.state deed.after.spot.state typed divided is.does.step.values is_state steps.fit steps.step
-
   pub turn_begins : (at : Position) (from : Supply) (turn : Turn) → IsState program.signature at.spot.state → IsTurn program settings at from turn → BeginsSome (IsRunOf program settings at) from (turn_events program turn)
-  turn_begins at from turn is_state is = turn_on at from turn is (state_behind at from turn is is_state)
+  turn_begins at from turn is_state is = turn_on at from turn is (state_behind laws program settings kept at from turn is is_state)
 
   pub question_begins : (at : Position) (from : Supply) (question : Question) (to : Supply) → IsState program.signature at.spot.state → IsQuestion program settings at from question to → BeginsSome (IsRunOf program settings at) from (question_events program question)
   question_begins at from question to is_state asks =
@@ -357,8 +307,7 @@ module _ (laws : ThereLaws) (program : Parts) (settings : Settings) (kept : IsPr
       elim (by_choice laws program settings kept at from is_state question to asks question.choice refl within) [
         | inl on ↦ (
             let front = turn_on at from on.turn on.is on.state in
-            let deed = on.turn.deed in
-            let steps = outs (lines_of_deed program deed) in
+            let steps = outs (lines_of_deed program on.turn.deed) in
             let said : question_events program question ++ (steps ++ front.more) ≡ turn_events program on.turn ++ front.more =
             sym (append_assoc (question_events program question) steps front.more) ∙ ap (λ (asked : Question). (question_events program asked ++ steps) ++ front.more) (sym on.of_question) in
             record { more = steps ++ front.more; left = front.left; whole = (front.whole.0, front.whole.1, front.whole.2, said ∙ front.whole.3) }

@@ -4,36 +4,36 @@ use Rattle.std.specs.List.{flat_map, AllByRecursion}
 use Rattle.std.proofs.lemmas.Grind.{flat_map-append}
 use Rattle.std.proofs.lemmas.List.{append-nil, length-map}
 use Rattle.cep_base.specs.declared.console.Event.{Event}
+use Rattle.cep_base.specs.declared.limits.TheConstants.{MOST_LOG}
 use Rattle.cep_base.specs.Talk.{outs, Did}
+use Rattle.cep_base.proofs.Did.{did_then}
 use Rattle.cep_machine.specs.Configuration.{Configuration}
+use Rattle.cep_lines.specs.declared.end_word.EndWord.{EndWord}
+use Rattle.cep_lines.specs.Lines.{end_lines, header}
 use Rattle.cep_rule.specs.declared.parts.Parts.{Parts}
 use Rattle.cep_rule.specs.declared.offer.Offer.{Offer}
-use Rattle.cep_lines.specs.declared.end_word.EndWord.{EndWord}
-use Rattle.cep_run.specs.declared.settings.Settings.{Settings}
-use Rattle.cep_run.specs.Deciding.{Supply}
-use Rattle.cep_lines.specs.Lines.{end_lines, header}
-use Rattle.cep_step.specs.Deeds.{Position, Deed, start_of, AreDeeds}
-use Rattle.cep_run.specs.Run.{whole_supply, Turn, Ending, IsTurn, AreTurns, deeds_of, offers_listed, EndsAt, unproved}
-use Rattle.cep_run.specs.Dialogue.{asking_line, turn_events, last_events, events_of, Dialogue, written_bytes}
-use Rattle.cep_run.specs.Fronts.{IsRunOf}
-use Rattle.cep_run.specs.declared.deciding.Spent.{Spent}
-use Rattle.cep_run.specs.declared.turn.Ended.{Ended}
-use Rattle.cep_run.specs.declared.turn.Turned.{Turned}
-use Rattle.cep_run.specs.declared.turn.Turned.TheVariants.{Over}
-use Rattle.cep_run.specs.Turn.{position_of, supply_with, DoesTurn, Stops, IsTurned, SoFar, IsWholeRun}
-use Rattle.cep_base.proofs.Did.{did_then}
-use Rattle.cep_run.proofs.Framed.{Short, Joins, Maps, left_then, so_left}
-use Rattle.cep_term.specs.Multiset.{copies_in}
 use Rattle.cep_rule.specs.declared.rule.Rule.{Rule}
-use Rattle.cep_log.specs.Holding.{HoldsDeeds}
-use Rattle.cep_base.specs.declared.limits.TheConstants.{MOST_LOG}
 use Rattle.cep_rule.specs.Limits.{IsHeight}
 use Rattle.cep_rule.specs.Program.{IsProgram}
+use Rattle.cep_run.specs.declared.settings.Settings.{Settings}
+use Rattle.cep_run.specs.declared.deciding.Spent.{Spent}
+use Rattle.cep_run.specs.declared.turn.Ended.{Ended}
+use Rattle.cep_run.specs.Deciding.{Supply}
+use Rattle.cep_run.specs.Fronts.{IsRunOf}
+use Rattle.cep_step.specs.Deeds.{Position, Deed, start_of, AreDeeds}
+use Rattle.cep_term.specs.Multiset.{copies_in}
+use Rattle.cep_run.specs.Run.{whole_supply, Turn, Ending, IsTurn, AreTurns, deeds_of, offers_listed, EndsAt, unproved}
+use Rattle.cep_run.specs.declared.turn.Turned.{Turned}
+use Rattle.cep_run.specs.Dialogue.{asking_line, turn_events, last_events, events_of, Dialogue, written_bytes}
+use Rattle.cep_run.specs.declared.turn.Turned.TheVariants.{Over}
+use Rattle.cep_run.specs.Turn.{position_of, supply_with, DoesTurn, Stops, IsTurned, SoFar, IsWholeRun}
+use Rattle.cep_run.specs.declared.tally.Tally.{Tally}
+use Rattle.cep_run.proofs.Framed.{Short, Joins, Maps, left_then, so_left}
+use Rattle.cep_run.specs.Said.{IsSaid, IsTally, IsSomeSaid}
+use Rattle.cep_log.specs.Holding.{HoldsDeeds}
 use Rattle.cep_log.specs.declared.log.Log.{Log}
 use Rattle.cep_log.specs.Legal.{IsLegal}
 use Rattle.cep_log.specs.Transcript.{HasLog}
-use Rattle.cep_run.specs.declared.tally.Tally.{Tally}
-use Rattle.cep_run.specs.Said.{IsSaid, IsTally, IsSomeSaid}
 
 -- Turn after turn, what was said so far is the events of the turns that are done.
 
@@ -68,18 +68,7 @@ module _ (program : Parts) (settings : Settings) (start : Position) where
 
     -- the run ends within a turn
     pub run_stops : (counts : List Deed → Type 0) (word : EndWord) (spent' : Spent) (come : List ℕ) (first : List Event) (between : List ℕ) (second : List Event) (rest : List ℕ) → SoFar program settings counts start at spent offers come first between → Stops asking_line program settings at spent word spent' between second rest → IsWholeRun program settings counts word start at offers come (first ++ second) rest
-    run_stops counts word spent' come first between second rest so stop = record {
-      turns = so.turns;
-      between = supply_with between spent;
-      left = supply_with rest spent';
-      asked = stop.asked;
-      done = so.done;
-      ends = stop.ends;
-      listed = so.listed;
-      counted = so.counted;
-      written = ap (λ es. es ++ second) so.written ∙ ap (λ es. flat_map (turn_events program) so.turns ++ es) stop.written;
-      rest_is = refl;
-    }
+    run_stops counts word spent' come first between second rest so stop = grind arith
 
     -- or after its last turn
     pub run_over : (counts : List Deed → Type 0) (word : EndWord) → ((from : Supply) → EndsAt program settings at from word None from) → Maps (SoFar program settings counts start at spent offers) (IsWholeRun program settings counts word start at offers)
@@ -219,18 +208,14 @@ module _ (program : Parts) (settings : Settings) (one : IsOneDialogue) (to_the_b
   dialogue_said P turns ending come events rest dialogue holds =
       let run = dialogue.run in
       let done = deeds program settings (start_of program) (whole_supply come) turns run.last run.between run.done in
-      let many = counted program settings.height (start_of program) (deeds_of turns) run.last done in
-      let each = length-map turns (λ (turn : Turn). turn.deed) in
       record {
         turns = turns;
         ending = ending;
         dialogue = dialogue;
         holds = holds;
         deeds = done;
-        counted = omega (arith, many, each);
-        logged = λ short.
-            let has = logs program settings come turns ending events rest kept height dialogue short in
-            (has.0, has.1, has.3, has.4);
+        counted = omega (arith, (counted program settings.height (start_of program) (deeds_of turns) run.last done), (length-map turns (λ (turn : Turn). turn.deed)));
+        logged = λ short. let has = logs program settings come turns ending events rest kept height dialogue short in (has.0, has.1, has.3, has.4);
         only = λ turns' ending' events' rest' other. one program settings come turns' turns ending' ending events' events rest' rest other dialogue;
         to_the_byte = λ plain turns' ending' events' rest' other. to_the_byte program settings come turns' turns ending' ending events' events rest' rest plain other dialogue;
       }
@@ -246,12 +231,10 @@ is_said program settings counts tally last one to_the_byte deeds counted logs ke
     let run = told.dialogue.run in
     let done = deeds program settings (start_of program) (whole_supply come) told.turns run.last run.between run.done in
     let many = counted program settings.height (start_of program) (deeds_of told.turns) run.last done in
-    let each = length-map told.turns (λ (turn : Turn). turn.deed) in
-    let last_turns : run.last.turns ≡ last.turns = ap (λ (at : Position). at.turns) told.last_is in
     dialogue_said program settings one to_the_byte deeds counted logs kept height (λ turns ending. IsTally turns ending tally × counts (deeds_of turns)) told.turns told.ending come events rest told.dialogue (
       record {
         word = sym told.word_is;
-        turns = omega (arith, turns, many, each, last_turns);
+        turns = omega (arith, turns, many, (length-map told.turns (λ (turn : Turn). turn.deed)), (ap (λ (at : Position). at.turns) told.last_is));
         offers = told.listed;
         copies = copies ∙ ap (λ (at : Position). copies_in at.spot.state) (sym told.last_is) ∙ ap copies_in (sym run.state);
       },

@@ -1,5 +1,5 @@
 -- What is written of a dialogue tells the deeds of its turns; and there is a dialogue, whatever is typed.
-use Rattle.std.proofs.Common.{◌≡◌, ◌≢◌, ℕ, ◌+◌, List, [], ◌∷◌, ◌++◌, length, append-nil, refl, sym, ap, arith, append_assoc, subst, Option, ◌≤◌}
+use Rattle.std.proofs.Common.{◌≡◌, ◌≢◌, ℕ, ◌+◌, List, [], ◌∷◌, ◌++◌, length, append-nil, refl, sym, ap, arith, append_assoc, Option, ◌≤◌}
 use Rattle.std.specs.Prelude.{codes, decimal}
 use Rattle.std.specs.List.{AllByRecursion, flat_map}
 use Rattle.std.proofs.lemmas.Grind.{flat_map-append}
@@ -10,28 +10,25 @@ use Rattle.cep_base.proofs.Elements.{both_all, all_of}
 use Rattle.cep_rule.specs.declared.parts.Parts.{Parts}
 use Rattle.cep_rule.specs.declared.offer.Offer.{Offer}
 use Rattle.cep_rule.specs.Shapes.{IsOfferOf}
+use Rattle.cep_rule.specs.State.{IsState}
+use Rattle.cep_rule.specs.Program.{IsProgram}
 use Rattle.cep_text.specs.Texts.{offer_text}
-use Rattle.cep_lines.specs.Lines.{line, offer_line, offer_lines, end_lines, header}
+use Rattle.cep_lines.specs.Lines.{line, offer_line, offer_lines, header}
+use Rattle.cep_step.specs.Deeds.{Position, start_of}
 use Rattle.cep_log.specs.Transcript.{IsPassedOver, IsOneLine}
 use Rattle.cep_log.specs.Written.{IsRemark}
 use Rattle.cep_log.specs.Holding.{AreRemarks, lines_of_deed, TellDeeds, TellRun}
 use Rattle.cep_choice.specs.TypedLine.{Cut, Nothing, Full, ReadsLine}
 use Rattle.cep_run.specs.declared.choice.Choice.{Choice}
 use Rattle.cep_run.specs.declared.settings.Settings.{Settings}
-use Rattle.cep_run.specs.Choice.{room_after, no_line, Hears, chosen, again, no_more, no_room}
 use Rattle.cep_run.specs.Deciding.{Supply, How, Decides}
-use Rattle.cep_step.specs.Deeds.{Position, start_of}
-use Rattle.cep_run.specs.Run.{Question, IsQuestion, Turn, Ending, whole_supply, deeds_of, AreTurns, Run}
-use Rattle.cep_run.specs.Dialogue.{asking_line, asked_events, written_bytes, question_events, last_events, turn_events, Dialogue, events_of}
+use Rattle.cep_run.specs.Choice.{room_after, no_line, Hears, chosen, again, no_more, no_room}
 use Rattle.cep_run.proofs.Turns.{applied_has_text}
-use Rattle.cep_term.specs.Multiset.{Multiset}
+use Rattle.cep_run.specs.Run.{Question, IsQuestion, Turn, Ending, whole_supply, deeds_of, AreTurns, Run}
 use Rattle.cep_run.proofs.TurnSteps.{LeftBy, left_by}
-use Rattle.cep_rule.specs.State.{IsState}
-use Rattle.cep_rule.specs.Program.{IsProgram}
+use Rattle.cep_run.specs.Dialogue.{asking_line, asked_events, written_bytes, question_events, last_events, turn_events, Dialogue, events_of}
 
 -- What is written of a question is remarks: lines that a transcript passes over.
-
--- Which bytes are written
 
 pub written_both : (events others : List Event) → written_bytes (events ++ others) ≡ written_bytes events ++ written_bytes others
 written_both [] others = refl
@@ -42,8 +39,6 @@ written_both (End ∷ events) others = written_both events others
 pub written_outs : (bytes : List ℕ) → written_bytes (outs bytes) ≡ bytes
 written_outs [] = refl
 written_outs (byte ∷ bytes) = ap (λ rest. byte ∷ rest) (written_outs bytes)
-
--- Remarks
 
 pub no_remarks : (bytes : List ℕ) → bytes ≡ [] → AreRemarks bytes
 no_remarks bytes none = record { lines = []; passed = tt; written = none }
@@ -124,20 +119,7 @@ module _ (program : Parts) (numbers : (number : ℕ) → IsOneLine (decimal numb
   last_told at from asked to asks = grind (arith, no_remarks, question_remarks, asking_remark)
 
   pub run_told : (come : List ℕ) (turns : List Turn) (ending : Ending) (events : List Event) (rest : List ℕ) → (said : Dialogue program settings come turns ending events rest) → TellRun program settings.height (deeds_of turns) ending.word said.run.last.spot.state (written_bytes events)
-  run_told come turns ending events rest said =
-      let run = said.run in
-      let head = header program settings.height in
-      let steps = flat_map (turn_events program) turns in
-      let last = last_events program ending.question in
-      let end = end_lines program.signature ending.word ending.state in
-      subst (λ (state : Multiset). TellRun program settings.height (deeds_of turns) ending.word state (written_bytes events)) run.state
-      (record {
-        told = written_bytes steps;
-        remarks = written_bytes last;
-        tell = turns_told (start_of program) (whole_supply come) turns run.last run.between run.done;
-        passed = last_told run.last run.between ending.question said.left (left_by program settings run.last run.between run.ends);
-        whole = rw (said.whole, written_both (outs head) (steps ++ (last ++ outs end)), written_outs head, written_both steps (last ++ outs end), written_both last (outs end), written_outs end) refl;
-      })
+  run_told come turns ending events rest said = grind (arith, turns_told, last_told, left_by, written_both, written_outs)
 
 -- Whatever is typed, there is a dialogue.
 

@@ -14,13 +14,13 @@ use Rattle.cep_rule.specs.Steps.{Spot, StepsTo, AreProofs, IsMachineStep}
 use Rattle.cep_lines.specs.declared.end_word.EndWord.{EndWord}
 use Rattle.cep_lines.specs.declared.end_word.EndWord.TheVariants.{Quiet}
 use Rattle.cep_step.specs.declared.limit.Limit.{Limit}
-use Rattle.cep_step.specs.declared.limit.Limit.TheVariants as limit
 use Rattle.cep_step.specs.Passing.{Passes}
+use Rattle.cep_step.specs.Deeds.{Position, Deed, AreDeeds}
 use Rattle.cep_run.specs.declared.settings.Settings.{Settings}
 use Rattle.cep_run.specs.Deciding.{Supply}
-use Rattle.cep_step.specs.Deeds.{Position, Deed, AreDeeds}
-use Rattle.cep_run.specs.Run.{Question, Turn, deeds_of, IsQuestion, IsChosen, IsTurn, AreTurns, EndsAt, atom_end, state_end}
 use Rattle.cep_run.specs.Turn.{limit_word}
+use Rattle.cep_run.specs.Run.{Question, Turn, deeds_of, IsQuestion, IsChosen, IsTurn, AreTurns, EndsAt, atom_end, state_end}
+use Rattle.cep_step.specs.declared.limit.Limit.TheVariants as limit
 
 -- a rule of the group that is asked is of the stage, or leaves it where nothing of its own applies
 pub in_turn : (program : Parts) (height : ℕ) (state : Multiset) (stage group of : ℕ) → of ≡ group → IsAsked program height state stage group → (of ≡ own_group stage) ⊎ ((of ≡ leaving_group stage) × ¬ HasOffer program height state (own_group stage))

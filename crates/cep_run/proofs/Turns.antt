@@ -2,12 +2,20 @@
 use Rattle.std.proofs.Common.{◌≡◌, ℕ, suc, ◌+◌, ◌*◌, ◌<◌, ◌≤◌, List, [], ◌∷◌, ◌++◌, length, append_assoc, get_or, inl, inr, refl, sym, ap, ◌∙◌, subst, arith, Option, None, Some, Bool, true, false}
 use Rattle.std.specs.Prelude.{slice_get, All, IsSomeAnd, IsTrue, ◌↔◌, IfSome}
 use Rattle.std.specs.List.{AllByRecursion}
+use Rattle.cep_log.specs.Holding.{lines_of_deed}
+use Rattle.cep_step.specs.Deeds.{Position, Deed}
+use Rattle.cep_step.specs.declared.limit.Limit.{Limit}
+use Rattle.cep_step.specs.declared.change.Change.{Change}
+use Rattle.cep_step.specs.declared.weighing.Weighed.{Weighed}
 use Rattle.std.proofs.lemmas.List.{append-nil, get_or_default}
 use Rattle.std.proofs.lemmas.Option.{slice_get_within, get_or_from_slice_get}
 use Rattle.cep_base.specs.declared.limits.TheConstants.{MOST_OFFERS}
 use Rattle.cep_base.specs.declared.console.Event.{Event}
 use Rattle.cep_base.specs.Talk.{outs, Did}
+use Rattle.cep_base.proofs.Lists.{holds_at, some_same}
 use Rattle.cep_term.specs.Multiset.{Multiset}
+use Rattle.cep_term.specs.Tree.{AtomTree}
+use Rattle.cep_base.proofs.Did.{did_same, did_map, did_then}
 use Rattle.cep_rule.specs.declared.rule.Rule.{Rule}
 use Rattle.cep_rule.specs.declared.parts.Parts.{Parts}
 use Rattle.cep_rule.specs.declared.offer.Offer.{Offer}
@@ -17,51 +25,33 @@ use Rattle.cep_rule.specs.Steps.{StepsTo, AreProofs}
 use Rattle.cep_rule.specs.Typing.{AreValues}
 use Rattle.cep_rule.specs.Matching.{offers_of, AreListed, RoseBy}
 use Rattle.cep_rule.specs.Shapes.{IsOfferOf, IsProofOf}
-use Rattle.cep_step.specs.declared.limit.Limit.{Limit}
-use Rattle.cep_step.specs.declared.change.Change.{Change}
-use Rattle.cep_step.specs.declared.weighing.Weighed.{Weighed}
-use Rattle.cep_step.specs.declared.weighing.Weighed.TheVariants as weighing
 use Rattle.cep_step.specs.Changes.{IsChangeOf, changed}
+use Rattle.cep_rule.specs.Derivations.{ProofTree, Proves}
+use Rattle.cep_rule.specs.Program.{IsProgram}
 use Rattle.cep_machine.specs.Configuration.{Configuration, spot_of}
 use Rattle.cep_machine.specs.Asking.{asked_offers, IsAskedIn}
 use Rattle.cep_machine.specs.Stepping.{IsWeighedAt}
 use Rattle.cep_run.specs.declared.choice.Choice.{Choice}
 use Rattle.cep_run.specs.declared.choice.Choice.TheVariants.{Place}
-use Rattle.cep_lines.specs.declared.end_word.EndWord.{EndWord}
-use Rattle.cep_lines.specs.declared.end_word.EndWord.TheVariants.{Offers}
 use Rattle.cep_run.specs.declared.settings.Settings.{Settings}
 use Rattle.cep_run.specs.declared.turn.Turned.{Turned}
-use Rattle.cep_run.specs.declared.turn.Turned.TheVariants.{Done, Over}
 use Rattle.cep_run.specs.declared.deciding.Spent.{Spent}
-use Rattle.cep_run.specs.Deciding.{Supply, How}
+use Rattle.cep_lines.specs.declared.end_word.EndWord.{EndWord}
+use Rattle.cep_lines.specs.declared.end_word.EndWord.TheVariants.{Offers}
 use Rattle.cep_lines.specs.Lines.{step_lines, expected_listing, deed_lines}
-use Rattle.cep_step.specs.Deeds.{Position, Deed}
+use Rattle.cep_run.specs.declared.turn.Turned.TheVariants.{Done, Over}
+use Rattle.cep_run.specs.Deciding.{Supply, How}
 use Rattle.cep_run.specs.Costs.{Edits, IsDeedCost}
-use Rattle.cep_log.specs.Holding.{lines_of_deed}
-use Rattle.cep_run.specs.Run.{Question, Turn, IsQuestion, IsChosen, IsTurn, EndsAt, offers_end}
 use Rattle.cep_run.specs.Dialogue.{asked_events}
+use Rattle.cep_run.specs.Run.{Question, Turn, IsQuestion, IsChosen, IsTurn, EndsAt, offers_end}
 use Rattle.cep_run.specs.Fronts.{BeginsSome}
 use Rattle.cep_run.specs.Begun.{PutsFront, SettlesSome, BeginsAct, IsQuestionOrTurn}
-use Rattle.cep_run.specs.Turn.{position_of, supply_with, IsOfferedHere, Settles, IsPlaced, AreStepLines, Acts, WouldPass, limit_word, IsActed, IsMoved, RoseByAct, DoesTurn, Stops, IsTurned}
-use Rattle.cep_base.proofs.Did.{did_same, did_map, did_then}
 use Rattle.cep_run.proofs.TurnSteps.{lawful_step, limit_end}
+use Rattle.cep_run.specs.Turn.{position_of, supply_with, IsOfferedHere, Settles, IsPlaced, AreStepLines, Acts, WouldPass, limit_word, IsActed, IsMoved, RoseByAct, DoesTurn, Stops, IsTurned}
 use Rattle.cep_run.proofs.Framed.{front_of_front, put_on, Short, Joins, Maps, left_then, settles_left, act_left}
-use Rattle.cep_base.proofs.Lists.{holds_at}
-use Rattle.cep_term.specs.Tree.{AtomTree}
-use Rattle.cep_rule.specs.Derivations.{ProofTree, Proves}
-use Rattle.cep_rule.specs.Program.{IsProgram}
+use Rattle.cep_step.specs.declared.weighing.Weighed.TheVariants as weighing
 
 -- Each way through a turn is a turn of a run, or the end of one.
-
-some_same : {A : Type 0} (x y : A) → Some x ≡ Some y → x ≡ y
-some_same x y e = cc
-
--- what holds of all items holds of the one at a place
-pub all_at : {A : Type 0} (P : A → Type 0) (xs : List A) → AllByRecursion P xs → (k : ℕ) (x : A) → slice_get xs k ≡ Some x → P x
-all_at P (y ∷ xs) all (suc k) x is = all_at P xs all.1 k x is
-all_at P xs all k x is = grind arith
-
--- Offers
 
 module _ (program : Parts) (height : ℕ) (state : Multiset) (group : ℕ) (offers : List Offer) (are : AreOffers program height state group offers) where
   -- what stands at a place of the offers is one
@@ -77,10 +67,7 @@ module _ (program : Parts) (height : ℕ) (state : Multiset) (group : ℕ) (offe
 
 -- what is offered here is some
 pub some_offers : {program : Parts} {settings : Settings} {at : Position} {group : ℕ} {offers : List Offer} → IsOfferedHere program settings at group offers → 0 < length offers
-some_offers here = elim here.asked [
-  | inl own ↦ let there = here.offered.each own.1.0 own.1.1 in omega (arith, there.1)
-  | inr leaving ↦ let there = here.offered.each leaving.2.0 leaving.2.1 in omega (arith, there.1)
-]
+some_offers here = elim here.asked [ inl own ↦ let there = here.offered.each own.1.0 own.1.1 in omega (arith, there.1) | inr leaving ↦ let there = here.offered.each leaving.2.0 leaving.2.1 in omega (arith, there.1) ]
 
 -- the group that is asked has a list
 pub group_listed : (lists : List (List Offer)) (stage group : ℕ) → IsAskedIn lists stage group → 2 * stage + 1 < length lists → group < length lists
@@ -102,8 +89,6 @@ module _ {M : Type 0} (height_held : M → ℕ) (state_held : M → Multiset) (o
   pub crowds_here : ok ≡ false → (from to : Supply) → to ≡ from → EndsAt program settings (position_of config) from Offers None to
   crowds_here clear from to unspent = offers_end remain (rw height at asked) are_offers (rw (sym view) (grind arith)) unspent
 
--- Steps
-
 -- an offer that a matcher lists applies within the height of the run
 pub listed_applies : {program : Parts} {height : ℕ} {state : Multiset} {lists : List (List Offer)} {group : ℕ} (place : ℕ) {offer : Offer} (settings : Settings) → AreListed program height state lists → group < length lists → slice_get (offers_of lists group) place ≡ Some offer → height ≡ settings.height
     → Applies program settings.height state offer
@@ -118,21 +103,7 @@ module _ {M : Type 0} {program : Parts} {lists : List (List Offer)} {offers : Li
   -- the step would pass a limit
   pub limit_acts : {C : Type 0} (talk : C → Option (List Event)) (left : C → Option (List ℕ)) (console : C) (height : ℕ) (passed : Limit) (number : ℕ) → weighed ≡ weighing.Passes passed number
       → IsActed talk left console console program height offers place old (Over (record { config = old; word = limit_word passed }))
-  limit_acts talk left console height passed number passes = (
-    did_map talk left console console _ _
-        (λ come events rest same. record {
-          offer = is.offer;
-          rule = is.rule;
-          placed = placed;
-          passed = passed;
-          named = refl;
-          passes = (rw passes at is.is).0;
-          unwritten = same.0;
-          untaken = same.1;
-        })
-        (did_same talk left console console refl refl),
-    refl,
-  )
+  limit_acts talk left console height passed number passes = grind (arith, did_map, placed, did_same talk left console console refl refl)
 
   -- the step was done
   module _ {change : Change} (within : weighed ≡ weighing.Within change) (new : Configuration M) (spot : spot_of new ≡ changed (spot_of old) change) (counted : new.turns ≡ old.turns + 1) where
@@ -191,8 +162,6 @@ module _ {M : Type 0} {program : Parts} {lists : List (List Offer)} {offers : Li
           let first = proved rule (rw one placed_there.of_rule) in
           let later = edited.risen in
           record { ticks = edited.ticks + length rule.backs; allows = record { edit = edited.ticks; allowed = rw (same_offer, one, rules) at allowed; sum = refl }; risen = omega (arith, first, later) }
-
--- Turns
 
 -- a question with this choice ends a run with this word
 abbrev pub EndsBy : Parts → Settings → Position → Choice → EndWord → Type 0

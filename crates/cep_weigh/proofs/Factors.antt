@@ -3,21 +3,21 @@ use Rattle.std.proofs.Common.{◌≡◌, ⊎_elim, Bool, true, false, cond, not,
 use Rattle.std.specs.Prelude.{filter, count_by}
 use Rattle.std.proofs.lemmas.Int.{ints}
 use Rattle.std.proofs.lemmas.List.Sums.{sum_by-cons}
-use Rattle.cep_base.proofs.Elements.{all_at, contains_cases}
-use Rattle.cep_term.specs.Multiset.{Multiset}
-use Rattle.cep_rule.specs.Patterns.{PremiseTree}
-use Rattle.cep_weigh.specs.declared.weight.Claim.{Claim}
-use Rattle.cep_weigh.specs.declared.weight.Claim.TheVariants.{Most, Fall}
-use Rattle.cep_weigh.specs.declared.weight.Part.{Part}
-use Rattle.cep_weigh.specs.Weights.{weighed, copies_of_pred, weight_of, Wants, ArePositive, factors_of, left_sum, right_sum, KeepsTo, AllKeepTo, AreNotNegative}
-use Rattle.cep_weigh.specs.WeightRuns.{GoesAsClaimed, HoldsOfRun, HoldsOfRuns}
-use Rattle.cep_weigh.proofs.Sums.{weighed_sum, weighed_none, weighed_one, positive_not_negative, part_within, run_falls, run_claimed, run_keeps, run_ends}
 use Rattle.std.proofs.lemmas.Option.{slice_get_within}
+use Rattle.cep_base.proofs.Elements.{all_at, contains_cases}
 use Rattle.cep_base.proofs.Lists.{all_from_places}
+use Rattle.cep_term.specs.Multiset.{Multiset}
 use Rattle.cep_term.specs.Tree.{Tree}
+use Rattle.cep_rule.specs.Patterns.{PremiseTree}
 use Rattle.cep_rule.specs.declared.rule.Rule.{Rule}
 use Rattle.cep_rule.specs.declared.parts.Parts.{Parts}
 use Rattle.cep_rule.specs.Step.{Step}
+use Rattle.cep_weigh.specs.declared.weight.Claim.{Claim}
+use Rattle.cep_weigh.specs.declared.weight.Claim.TheVariants.{Most, Fall}
+use Rattle.cep_weigh.specs.declared.weight.Part.{Part}
+use Rattle.cep_weigh.specs.WeightRuns.{GoesAsClaimed, HoldsOfRun, HoldsOfRuns}
+use Rattle.cep_weigh.specs.Weights.{weighed, copies_of_pred, weight_of, Wants, ArePositive, factors_of, left_sum, right_sum, KeepsTo, AllKeepTo, AreNotNegative}
+use Rattle.cep_weigh.proofs.Sums.{weighed_sum, weighed_none, weighed_one, positive_not_negative, part_within, run_falls, run_claimed, run_keeps, run_ends}
 
 -- Sums of factors, one after another, and what bounds the copies of a predicate.
 

@@ -1,31 +1,31 @@
 -- Lines and numbers of claims that are read, in one way.
-use Rattle.std.proofs.Common.{◌≡◌, ◌⊎◌, inl, inr, ℕ, ◌+◌, ◌<◌, ◌≤◌, List, [], ◌∷◌, ◌++◌, length, refl, sym, ap, ◌∙◌, subst, arith, length-append, append_assoc, slice_get, Bool, false, Result, Ok, Err, ◌^◌, ℤ, ◌≢◌, ⊎_elim, suc, true, map, Contains, IsSomeAnd}
-use Rattle.std.specs.Prelude.{IfOk, IfErr, IsTrue, ◌↔◌}
-use Rattle.cep_base.specs.declared.kind.PredKind.TheVariants.{Linear}
+use Rattle.std.proofs.Common.{◌≡◌, ◌⊎◌, inl, inr, ℕ, ◌+◌, ◌<◌, ◌≤◌, List, [], ◌∷◌, ◌++◌, length, refl, sym, ap, ◌∙◌, subst, arith, length-append, append_assoc, slice_get, Bool, false, ◌^◌, ℤ, ◌≢◌, ⊎_elim, suc, true, map, Contains, IsSomeAnd}
+use Rattle.std.specs.Prelude.{IsTrue, ◌↔◌}
 use Rattle.std.specs.List.{AllByRecursion}
+use Rattle.std.specs.Int.RustNames.{FitsSigned}
 use Rattle.std.proofs.lemmas.List.{append-nil}
+use Rattle.std.proofs.lemmas.Int.{ints}
+use Rattle.cep_base.specs.declared.kind.PredKind.TheVariants.{Linear}
 use Rattle.cep_base.proofs.Elements.{both_all, contains_cases}
+use Rattle.cep_base.proofs.Options.{some_weaker as some_as}
 use Rattle.cep_rule.specs.declared.signature.Signature.{Signature}
+use Rattle.cep_rule.specs.declared.signature.PredDecl.{PredDecl}
 use Rattle.cep_rule.specs.declared.parts.Parts.{Parts}
+use Rattle.cep_rule.specs.Names.{AllDiffer}
 use Rattle.cep_weigh.specs.declared.weight.Part.{Part}
 use Rattle.cep_weigh.specs.declared.weight.Weight.{Weight}
+use Rattle.cep_weigh.specs.declared.weight.Claim.{Claim}
 use Rattle.cep_weigh.specs.declared.fault.KeepFault.{KeepFault}
 use Rattle.cep_weigh.specs.declared.written.NamedPart.{NamedPart}
 use Rattle.cep_weigh.specs.Weights.{IsFactor, AreOfLinear, IsWeightOf}
-use Rattle.cep_weigh.specs.Claims.{claim_lines, SaysNothing, IsNamedPart, AreResolved, IsClaimOf, IsClaimFault, AddsLine, AddClaims, HasClaims, HasFault, claim_word, parts_words, IsWrittenAs, IsLinearNamed, SomeIsUnknown, IsNamedBefore, IsResolvedLine, SaysTwice}
-use Rattle.cep_base.proofs.Options.{some_weaker as some_as}
-use Rattle.std.specs.Int.RustNames.{FitsSigned}
+use Rattle.cep_weigh.specs.declared.fault.KeepFault.TheVariants.{Keep, KeepName, KeepTwice, KeepSign}
+use Rattle.cep_weigh.specs.Claims.{claim_lines, SaysNothing, IsNamedPart, AreResolved, IsClaimOf, IsClaimFault, AddsLine, AddClaims, HasClaims, HasFault, claim_word, parts_words, IsWrittenAs, IsLinearNamed, SomeIsUnknown, IsResolvedLine, SaysTwice}
 use Rattle.std.specs.Fmt.{signed_decimal}
 use Rattle.std.proofs.lemmas.Fmt.{signed_decimal_injective}
-use Rattle.std.proofs.lemmas.Int.{ints}
+use Rattle.cep_weigh.specs.declared.written.Written.{Written}
 use lib.Signed.{mag}
 use mir.Syntax.{w64}
-use Rattle.cep_rule.specs.declared.signature.PredDecl.{PredDecl}
-use Rattle.cep_rule.specs.Names.{AllDiffer}
-use Rattle.cep_weigh.specs.declared.weight.Claim.{Claim}
 use Rattle.cep_weigh.specs.declared.weight.Claim.TheVariants as claim
-use Rattle.cep_weigh.specs.declared.fault.KeepFault.TheVariants.{Keep, KeepName, KeepTwice, KeepSign}
-use Rattle.cep_weigh.specs.declared.written.Written.{Written}
 
 -- The lines that were read so far, and what is said of all of them.
 
@@ -80,13 +80,6 @@ all_of_program program number (line ∷ lines) earlier all add each = all_of_pro
   after : AddsLine program.signature number line earlier add.0 → AllByRecursion (IsWeightOf program) add.0
   after (inl none) = subst (AllByRecursion (IsWeightOf program)) (sym none.1) each
   after (inr one) = subst (AllByRecursion (IsWeightOf program)) (sym one.3) (both_all (IsWeightOf program) earlier (one.0 ∷ []) each (weight_is program earlier line number one.0 one.2, tt))
-
--- what is said of an answer, at that answer
-pub told_ok : {T E : Type 0} (r : Result T E) (x : T) (P : T → Type 0) → r ≡ Ok x → IfOk r P → P x
-told_ok {E = E} r x P is h = let k : IfOk {E = E} (Ok x) P = subst (λ s. IfOk s P) is h in k
-
-pub told_err : {T E : Type 0} (r : Result T E) (e : E) (P : E → Type 0) → r ≡ Err e → IfErr r P → P e
-told_err {T = T} r e P is h = let k : IfErr {T = T} (Err e) P = subst (λ s. IfErr s P) is h in k
 
 pub not_twice : (b : Bool) (P Q : Type 0) → (IsTrue b ↔ P) → b ≡ false → Q → (P ⊎ ¬ Q) → ⊥
 not_twice b P Q tells is q given = grind arith
@@ -184,11 +177,6 @@ module _ (signature : Signature) (differ : AllDiffer (map (λ decl. decl.name) s
 
   known_of : (earlier : List Weight) (line : List ℕ) (number : ℕ) (weight : Weight) → IsClaimOf signature earlier line number weight → IsResolvedLine signature line
   known_of earlier line number weight is = record { written = is.written; line_is = is.line_is; sum = weight.sum; numbered = is.numbered }
-
-  not_twice_said : (earlier : List Weight) (line : List ℕ) (number : ℕ) (weight : Weight) (is : IsClaimOf signature earlier line number weight) → SaysTwice earlier (known_of earlier line number weight is) → ⊥
-  unfolding known_of
-  not_twice_said earlier line number weight is (inl named) = is.fresh (subst (IsNamedBefore earlier) (sym is.name_is) named)
-  not_twice_said earlier line number weight is (inr never) = never is.apart
 
   claim_or_fault : (earlier : List Weight) (line : List ℕ) (number at : ℕ) (weight : Weight) (fault : KeepFault) → IsClaimOf signature earlier line number weight → IsClaimFault signature earlier line at fault → ⊥
   claim_or_fault earlier line number at weight fault is why = grind (arith, none_unknown, twice_too, known_of, one_written, sum_of_line)

@@ -1,14 +1,14 @@
 -- The parts of a sum, word by word.
 use Rattle.std.proofs.Common.{◌≡◌, ℕ, Bool, true, false, List, [], ◌∷◌, ◌++◌, length, map, take, drop, get_or, Option, Some, None, ◌-◌, ◌<◌, ◌≤◌, ◌==◌, ◌↔◌, refl, sym, ap, ◌∙◌, subst, arith}
 use Rattle.std.specs.Prelude.{IsTrue, IfSome, IfNone}
-use Rattle.std.proofs.lemmas.List.{take_all}
-use Rattle.std.proofs.lemmas.Bool.{eqb-true}
 use Rattle.std.specs.List.{AllByRecursion}
 use Rattle.std.specs.Fmt.{signed_decimal}
+use Rattle.std.proofs.lemmas.List.{take_all}
+use Rattle.std.proofs.lemmas.Bool.{eqb-true}
 use Rattle.cep_base.proofs.Elements.{both_all}
+use Rattle.cep_weigh.specs.declared.written.Written.{Written}
 use Rattle.cep_weigh.specs.declared.written.NamedPart.{NamedPart}
 use Rattle.cep_weigh.specs.Claims.{IsNamedPart, IsWritable, mark_of, parts_words, claim_words}
-use Rattle.cep_weigh.specs.declared.written.Written.{Written}
 
 -- whether a part after these is the first
 abbrev pub is_first : List NamedPart → Bool

@@ -5,26 +5,26 @@ use Rattle.std.proofs.lemmas.Int.{ints, to_z-of_z}
 use Rattle.std.proofs.lemmas.Bool.{eqb-true, eqb-false, ne_eqb, false≢true}
 use Rattle.std.proofs.Math.IntN.{*ℤ-zero}
 use Rattle.cep_base.proofs.Elements.{contains_none, contains_cases, all_at}
+use Rattle.cep_base.proofs.Lists.{take_next, all_weaker}
 use Rattle.cep_weigh.specs.declared.weight.Claim.{Claim}
 use Rattle.cep_weigh.specs.declared.weight.Part.{Part}
+use Rattle.cep_weigh.proofs.Lined.{fits}
+use Rattle.cep_weigh.proofs.Worths.{copies_sum, copies_gathered, copies_once}
 use Rattle.cep_weigh.specs.Weights.{weighed, Wants, AreNotNegative, ArePositive, factor_of, factors_of, IsFactor, HaveOwnPredicates, copies_of_pred, used_of, made_of, weight_of, left_sum, right_sum, AllKeepTo, AreOfLinear}
 use Rattle.std.specs.Prelude.{filter, if◌then◌else◌, sum_by, count_by}
 use Rattle.std.proofs.lemmas.List.Sums.{sum_by-cons, sum_by-append}
 use mir.Syntax.{w64}
 use mir.Val.{SFits, to_z, of_z}
-use Rattle.cep_base.proofs.Lists.{take_next, all_weaker}
 use Rattle.cep_term.specs.Tree.{AtomTree, Tree}
-use Rattle.cep_rule.specs.Patterns.{PremiseTree}
-use Rattle.cep_weigh.proofs.Lined.{fits}
-use Rattle.cep_base.specs.declared.kind.PredKind.TheVariants.{Linear}
 use Rattle.cep_term.specs.BagLaws.{BagLaws}
 use Rattle.cep_term.specs.Multiset.{Multiset, gathered, sum_of, once}
+use Rattle.cep_rule.specs.Patterns.{PremiseTree}
 use Rattle.cep_rule.specs.declared.signature.Signature.{Signature}
 use Rattle.cep_rule.specs.declared.rule.Rule.{Rule}
 use Rattle.cep_rule.specs.Typing.{is_fact}
-use Rattle.cep_rule.specs.Instances.{full_instance, full_instances}
 use Rattle.cep_rule.specs.Step.{Step}
-use Rattle.cep_weigh.proofs.Worths.{copies_sum, copies_gathered, copies_once}
+use Rattle.cep_base.specs.declared.kind.PredKind.TheVariants.{Linear}
+use Rattle.cep_rule.specs.Instances.{full_instance, full_instances}
 use Rattle.cep_rule.specs.declared.parts.Parts.{Parts}
 use Rattle.cep_weigh.specs.declared.weight.Claim.TheVariants.{Keep, Most, Fall}
 use Rattle.cep_weigh.specs.WeightRuns.{Follows, IsRun, GoesAsClaimed}

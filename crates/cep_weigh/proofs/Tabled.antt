@@ -4,13 +4,13 @@ use Rattle.std.specs.Prelude.{MatchOption, if◌then◌else◌}
 use Rattle.std.specs.List.{list_any}
 use Rattle.std.specs.Str.{bytes_eq}
 use Rattle.std.proofs.lemmas.Slice.Eq.{bytes_eq-Decides}
-use Rattle.std.proofs.lemmas.Bool.{false≢true, cases_lt}
 use Rattle.std.proofs.lemmas.List.{map-append}
+use Rattle.std.proofs.lemmas.Bool.{false≢true, cases_lt}
+use Rattle.cep_rule.specs.declared.signature.PredDecl.{PredDecl}
+use Rattle.cep_rule.specs.declared.signature.Signature.{Signature}
 use Rattle.cep_base.specs.declared.kind.PredKind.TheVariants.{Linear}
 use Rattle.cep_base.specs.FirstNames.{has_name, under_name, added}
 use Rattle.cep_base.proofs.Elements.{contains_left, contains_right, contains_either, contains_first, contains_cases, contains_none}
-use Rattle.cep_rule.specs.declared.signature.PredDecl.{PredDecl}
-use Rattle.cep_rule.specs.declared.signature.Signature.{Signature}
 use Rattle.cep_weigh.specs.declared.weight.Weight.{Weight}
 use Rattle.cep_weigh.specs.Claims.{IsLinearNamed}
 use Rattle.cep_weigh.specs.Tables.{NamesLinearBelow, NamesLinear, NamesClaims}
@@ -51,10 +51,6 @@ adds_new table new name number is other = ap (λ t. under_name t other) is ∙ n
 
 pub adds_by : (table new : Table) (name : List ℕ) (number : ℕ) → new ≡ added table (name, number) → AddsName table name number new
 adds_by table new name number is = grind (arith, adds_there, adds_new)
-
--- the linear predicates below a number
-abbrev NamedBelow : Signature → ℕ → List ℕ → Option ℕ → Type 0
-NamedBelow signature most name o = MatchOption o ((pred : ℕ) → pred < most → ¬ IsLinearNamed signature pred name) (λ pred. IsLinearNamed signature pred name)
 
 pub linear_found : (signature : Signature) (table : Table) → NamesLinear signature table → (name : List ℕ) (o : Option ℕ) (pred : ℕ) → o ≡ under_name table name → o ≡ Some pred → IsLinearNamed signature pred name
 linear_found signature table names name o pred is there = grind arith

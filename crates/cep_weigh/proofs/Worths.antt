@@ -1,20 +1,21 @@
 -- What the copies of a multiset are worth.
 use Rattle.std.proofs.Common.{◌≡◌, T, ℕ, ◌+◌, Bool, true, false, cond, not, ◌&&◌, ◌==◌, List, [], ◌∷◌, Option, Some, None, unwrap_or, refl, sym, ap, subst, ◌∙◌, arith, map}
 use Rattle.std.specs.Prelude.{sum_by, fold, count_by}
+use Rattle.std.specs.Ordering.{is_eq, is_lt, eq_by_cmp}
 use Rattle.std.proofs.lemmas.Bool.{eqb-true}
 use Rattle.std.proofs.lemmas.List.Sums.{sum_by-cons}
 use Rattle.std.specs.declared.cmp.Ordering.TheVariants.{Less, Equal, Greater}
-use Rattle.std.specs.Ordering.{is_eq, is_lt, eq_by_cmp}
 use Rattle.std.specs.Cmp.{eq_by_cmp_equiv, alike_right}
-use Rattle.std.specs.FinMap as finite
+use Rattle.cep_base.proofs.Sorted.{is_less}
+use Rattle.cep_base.proofs.Bools.{and_parts}
+use Rattle.cep_term.specs.Entries.{IsRising, find_count}
+use Rattle.cep_weigh.specs.Weights.{copies_of_pred}
 use Rattle.std.specs.FinMap.Entries.{find, put, where_key, below_all, by_order, is_sorted, is_sorted-where_key, find-where_key}
 use Rattle.cep_term.specs.Tree.{AtomTree}
 use Rattle.cep_term.specs.Order.{atom_cmp}
 use Rattle.cep_term.specs.BagLaws.{BagLaws}
 use Rattle.cep_term.specs.Multiset.{Multiset, count_of, with_count, gathered, sum_of, held, once}
-use Rattle.cep_term.specs.Entries.{IsRising, find_count}
-use Rattle.cep_base.proofs.Sorted.{is_less}
-use Rattle.cep_weigh.specs.Weights.{copies_of_pred}
+use Rattle.std.specs.FinMap as finite
 
 -- What the copies of a multiset are worth, by any function that is nothing for no copies: after a count is set, in a sum, and of a list that is gathered.
 
@@ -23,9 +24,6 @@ Counted = AtomTree × ℕ
 
 is_true : (b : Bool) → T b → b ≡ true
 is_true b h = grind arith
-
-and_parts : (a b : Bool) → (a && b) ≡ true → (a ≡ true) × (b ≡ true)
-and_parts a b e = grind arith
 
 -- the entries without the atom's
 abbrev without : AtomTree → List Counted → List Counted

@@ -1,13 +1,13 @@
 -- Decimals, and what std reads of them.
-use Rattle.std.proofs.Common.{◌≡◌, ℕ, zero, suc, ◌^◌, ◌<◌, Bool, true, false, cond, List, [], ◌∷◌, length, get_or, drop, ◌==◌, IsUtf8, refl, sym, ap, subst, ◌∙◌, arith}
+use Rattle.std.proofs.Common.{◌≡◌, ℕ, zero, suc, ◌^◌, ◌<◌, Bool, true, false, cond, List, [], ◌∷◌, length, get_or, IsUtf8, refl, sym, ap, subst, ◌∙◌, arith}
 use Rattle.std.proofs.lemmas.Bool.{ltb-true, leb-true, le-leb, lt-ltb, eqb-true}
-use Rattle.std.proofs.lemmas.Fmt.{decimal_digit, decimal_is_IsNumeral, decimal_nonempty, first_decimal, IsAscii-decimal, decimal-digits_value}
 use Rattle.std.proofs.lemmas.Str.{IsUtf8-from_ascii}
-use Rattle.std.proofs.lemmas.Str.Parse.{IsNumeralModel, numerals_by_value, tells_all_ascii_digits}
 use Rattle.std.specs.Fmt.{decimal}
 use Rattle.std.specs.Str.{all_ascii_digits}
-use Rattle.std.specs.Str.Parse.{IsNumeral, digits_value, without_leading_plus}
+use Rattle.std.proofs.lemmas.Fmt.{decimal_digit, decimal_is_IsNumeral, decimal_nonempty, first_decimal, IsAscii-decimal, decimal-digits_value}
+use Rattle.std.proofs.lemmas.Str.Parse.{IsNumeralModel, numerals_by_value, tells_all_ascii_digits}
 use Rattle.cep_words.specs.Numerals.{begins_as_decimal}
+use Rattle.std.specs.Str.Parse.{IsNumeral, digits_value, without_leading_plus}
 
 numerals : IsNumeralModel (λ digits. all_ascii_digits digits ≡ true) (digits_value 10)
 numerals = numerals_by_value _ tells_all_ascii_digits
@@ -17,13 +17,10 @@ true_false e = cc
 
 -- some bytes of which the first is greater than `0` begin a decimal
 greater_first : (bytes : List ℕ) → 0 < length bytes → 48 < get_or bytes 0 0 → begins_as_decimal bytes ≡ true
-greater_first [] some first = absurd (omega (arith, some))
-greater_first (b ∷ []) some first = le-leb 48 b (omega (arith, first))
-greater_first (b ∷ (next ∷ rest)) some first = lt-ltb 48 b first
+greater_first bytes some first = grind (arith, le-leb, lt-ltb)
 
 decimal_begins : (n : ℕ) → n < 2 ^ 64 → begins_as_decimal (decimal n) ≡ true
-decimal_begins zero small = subst (λ bytes. begins_as_decimal bytes ≡ true) (sym (decimal_digit 0 (omega arith))) refl
-decimal_begins (suc n) small = greater_first (decimal (suc n)) (decimal_nonempty (suc n) small) (first_decimal (suc n) (omega arith) small)
+decimal_begins n small = grind (arith, decimal_digit, greater_first, decimal_nonempty, first_decimal)
 
 -- bytes that begin otherwise are no decimal
 pub begins_otherwise : (bytes : List ℕ) (n : ℕ) → begins_as_decimal bytes ≡ false → n < 2 ^ 64 → bytes ≡ decimal n → ⊥
@@ -35,30 +32,15 @@ no_text bytes n none small is = none (subst IsUtf8 (sym is) (IsUtf8-from_ascii (
 
 -- what begins as a decimal has no plus before it
 no_plus : (bytes : List ℕ) → begins_as_decimal bytes ≡ true → without_leading_plus bytes ≡ bytes
-no_plus [] begins = true_false (sym begins)
-no_plus (b ∷ []) begins = by (b == 43) refl
-  where
-    by : (t : Bool) → (b == 43) ≡ t → drop (cond t 1 0) (b ∷ []) ≡ b ∷ []
-    by true e = let low = leb-true 48 b begins in absurd (let same = eqb-true b 43 e in omega (arith, low, same))
-    by false e = refl
-no_plus (b ∷ (next ∷ rest)) begins = by (b == 43) refl
-  where
-    by : (t : Bool) → (b == 43) ≡ t → drop (cond t 1 0) (b ∷ (next ∷ rest)) ≡ b ∷ (next ∷ rest)
-    by true e = let low = ltb-true 48 b begins in absurd (let same = eqb-true b 43 e in omega (arith, low, same))
-    by false e = refl
+no_plus bytes begins = grind (arith, true_false, leb-true, eqb-true, ltb-true)
 
 -- what std reads no number of is no decimal
 no_numeral : (bytes : List ℕ) (n : ℕ) → begins_as_decimal bytes ≡ true → ¬ (IsNumeral 10 (without_leading_plus bytes) × (digits_value 10 (without_leading_plus bytes) < 2 ^ 64)) → n < 2 ^ 64 → bytes ≡ decimal n → ⊥
-no_numeral bytes n begins none small is =
-    let plain = no_plus bytes begins ∙ is in
-    let read = decimal_is_IsNumeral n small in
-    none (subst (λ (digits : List ℕ). IsNumeral 10 digits × (digits_value 10 digits < 2 ^ 64)) (sym plain) (read.0, subst (λ (m : ℕ). m < 2 ^ 64) (sym read.1) small))
+no_numeral bytes n begins none small is = grind (arith, no_plus, decimal_is_IsNumeral)
 
 -- alone, a digit that is `0` is one digit
 lone_zero : (bytes : List ℕ) → begins_as_decimal bytes ≡ true → get_or bytes 0 0 ≡ 48 → length bytes ≡ 1
-lone_zero [] begins first = true_false (sym begins)
-lone_zero (b ∷ []) begins first = refl
-lone_zero (b ∷ (next ∷ rest)) begins first = absurd (let great = ltb-true 48 b begins in omega (arith, great, first))
+lone_zero bytes begins first = grind (arith, true_false, ltb-true)
 
 -- the number that std reads is the one whose decimal this is
 spells_number : (bytes : List ℕ) (n : ℕ) → begins_as_decimal bytes ≡ true → IsNumeral 10 (without_leading_plus bytes) → digits_value 10 (without_leading_plus bytes) < 2 ^ 64 → n ≡ digits_value 10 (without_leading_plus bytes) → bytes ≡ decimal n
@@ -70,10 +52,7 @@ spells_number bytes n begins numeral small is =
 
 -- the same of a text with these bytes
 pub text_spells : (bytes text : List ℕ) (n : ℕ) → text ≡ bytes → begins_as_decimal bytes ≡ true → IsNumeral 10 (without_leading_plus text) × (digits_value 10 (without_leading_plus text) < 2 ^ 64) → n ≡ digits_value 10 (without_leading_plus text) → bytes ≡ decimal n
-text_spells bytes text n same begins numeral is =
-    let read = subst (λ (t : List ℕ). IsNumeral 10 (without_leading_plus t) × (digits_value 10 (without_leading_plus t) < 2 ^ 64)) same numeral in
-    spells_number bytes n begins read.0 read.1 (is ∙ ap (λ t. digits_value 10 (without_leading_plus t)) same)
+text_spells bytes text n same begins numeral is = grind (arith, spells_number)
 
 pub text_spells_none : (bytes text : List ℕ) (n : ℕ) → text ≡ bytes → begins_as_decimal bytes ≡ true → ¬ (IsNumeral 10 (without_leading_plus text) × (digits_value 10 (without_leading_plus text) < 2 ^ 64)) → n < 2 ^ 64 → bytes ≡ decimal n → ⊥
-text_spells_none bytes text n same begins none small is =
-    no_numeral bytes n begins (subst (λ (t : List ℕ). ¬ (IsNumeral 10 (without_leading_plus t) × (digits_value 10 (without_leading_plus t) < 2 ^ 64))) same none) small is
+text_spells_none bytes text n same begins none small is = grind (arith, no_numeral)

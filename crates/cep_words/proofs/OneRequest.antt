@@ -3,19 +3,19 @@ use Rattle.std.proofs.Common.{◌≡◌, ◌≢◌, ℕ, ◌+◌, ◌*◌, ◌<�
 use Rattle.std.specs.Prelude.{IsSome, MatchOption, codes, decimal}
 use Rattle.std.specs.List.{AllByRecursion}
 use Rattle.std.specs.List.Sorted.{IsPermutation}
-use Rattle.std.proofs.lemmas.List.Recursion.{is_sum_by}
-use Rattle.std.proofs.lemmas.List.Sorted.{IsPermutation-refl, IsPermutation-sym, IsPermutation-trans, IsPermutation-cons, IsPermutation-middle, IsPermutation-to_front, IsPermutation-map, IsPermutation-append_right, Contains-permutation, sum_by-IsPermutation}
-use Rattle.std.proofs.lemmas.List.{map-append, take_more, take-append-drop, append_cancel_left}
 use Rattle.std.proofs.Math.Seq.{take-length}
-use Rattle.cep_base.proofs.Elements.{contains_right, contains_first, map_cases, all_at, all_of, contains_none, contains_cases, contains_either, contains_left, contains_map}
+use Rattle.std.proofs.lemmas.List.Recursion.{is_sum_by}
+use Rattle.std.proofs.lemmas.List.{map-append, take_more, take-append-drop, append_cancel_left}
+use Rattle.std.proofs.lemmas.Fmt.{decimal_injective}
+use Rattle.std.proofs.lemmas.List.Sorted.{IsPermutation-refl, IsPermutation-sym, IsPermutation-trans, IsPermutation-cons, IsPermutation-middle, IsPermutation-to_front, IsPermutation-map, IsPermutation-append_right, Contains-permutation, sum_by-IsPermutation}
+use Rattle.cep_base.proofs.Elements.{contains_right, contains_first, map_cases, all_at, all_of, contains_either, contains_left, contains_map}
 use Rattle.cep_words.specs.declared.run_option.RunOption.{RunOption}
 use Rattle.cep_words.specs.declared.run_option.RunOption.TheVariants.{Seed, Height, Turns, Players}
 use Rattle.cep_words.specs.declared.options.Options.{Options}
 use Rattle.cep_words.specs.declared.request.Task.{Task}
 use Rattle.cep_words.specs.declared.request.Task.TheVariants.{Check, Renew, Cause, Again, Weigh}
-use Rattle.cep_words.specs.Words.{option_text, IsInBounds, asked_if, all_asked, AreWithin, Give, task_word, options_of, Play, Examine, Dead, World, AskFor, HaveNoForm, play_word, Request}
 use Rattle.cep_words.specs.Adding.{of_its_kind, IsThere, AddsOne}
-use Rattle.std.proofs.lemmas.Fmt.{decimal_injective}
+use Rattle.cep_words.specs.Words.{option_text, IsInBounds, asked_if, all_asked, AreWithin, Give, task_word, options_of, Play, Examine, Dead, World, AskFor, HaveNoForm, play_word, Request}
 
 -- Words that give options, one after another.
 
@@ -36,9 +36,7 @@ times first [] = 0
 times first (word ∷ words) = begins first word + times first words
 
 times-permuted : (first : ℕ) (words others : List (List ℕ)) → IsPermutation words others → times first others ≡ times first words
-times-permuted first words others same =
-    let is = is_sum_by (times first) (begins first) refl (λ word words. refl) in
-    is others ∙ sum_by-IsPermutation (begins first) words others same ∙ sym (is words)
+times-permuted first words others same = let is = is_sum_by (times first) (begins first) refl (λ word words. refl) in is others ∙ sum_by-IsPermutation (begins first) words others same ∙ sym (is words)
 
 times-both : (first : ℕ) (words others : List (List ℕ)) → times first (words ++ others) ≡ times first words + times first others
 times-both first [] others = omega arith
@@ -53,21 +51,11 @@ present (Some n) = 1
 
 -- the words of one kind: each begins so, or none
 times-kind : (first count : ℕ) (kind : ℕ → RunOption) (o : Option ℕ) → ((n : ℕ) → begins first (option_text (kind n)) ≡ count) → times first (map option_text (asked_if kind o)) ≡ count * present o
-times-kind first count kind None each = omega arith
-times-kind first count kind (Some n) each = omega (arith, each n)
+times-kind first count kind o each = grind arith
 
 -- those of all kinds
 times-asked_all : (first : ℕ) (options : Options) → times first (map option_text (all_asked options)) ≡ cond (115 == first) 1 0 * present options.seed + (cond (104 == first) 1 0 * present options.height + (cond (116 == first) 1 0 * present options.turns + cond (112 == first) 1 0 * present options.players))
-times-asked_all first options =
-    rw (
-      times-asked,
-      times-asked,
-      times-asked,
-      times-kind first (cond (115 == first) 1 0) Seed options.seed (λ n. refl),
-      times-kind first (cond (104 == first) 1 0) Height options.height (λ n. refl),
-      times-kind first (cond (116 == first) 1 0) Turns options.turns (λ n. refl),
-      times-kind first (cond (112 == first) 1 0) Players options.players (λ n. refl),
-    )
+times-asked_all first options = grind (arith, times-asked, times-kind, first)
 
 -- as many words begin as an option's does as ask what is of its kind
 asked_once : (option : RunOption) (options : Options) → times (initial option) (map option_text (all_asked options)) ≡ present (of_its_kind options option)
@@ -98,9 +86,6 @@ some_present (Some n) some = refl
 pub record AreRead (words : List (List ℕ)) (options : Options) : Type 0 where
   pub within : AreWithin options
   pub given : IsPermutation (map option_text (all_asked options)) words
-
-pub none_read : AreRead [] (record { seed = None; height = None; turns = None; players = None })
-none_read = record { within = tt; given = IsPermutation-refl [] }
 
 abbrev parts : Option ℕ → Option ℕ → Option ℕ → Option ℕ → List RunOption
 parts seed height turns players = asked_if Seed seed ++ (asked_if Height height ++ (asked_if Turns turns ++ asked_if Players players))
@@ -196,12 +181,7 @@ none_weaker (Some x) P P' Q less holds = holds
 -- words that ask for no task in three words or four examine nothing
 unexamined : (words : List (List ℕ)) → ((task : Task) (file second : List ℕ) → words ≢ task_word task ∷ file ∷ second ∷ []) → ((seed : ℕ) (file second : List ℕ) → ¬ (AskFor words (Examine (Again (Some seed)) file second)))
     → (task : Task) (file second : List ℕ) → ¬ (AskFor words (Examine task file second))
-unexamined words plain seeded Check file second ask = plain Check file second ask.1
-unexamined words plain seeded Renew file second ask = plain Renew file second ask.1
-unexamined words plain seeded Cause file second ask = plain Cause file second ask.1
-unexamined words plain seeded (Again None) file second ask = plain (Again None) file second ask.1
-unexamined words plain seeded (Again (Some seed)) file second ask = seeded seed file second ask
-unexamined words plain seeded Weigh file second ask = plain Weigh file second ask.1
+unexamined words plain seeded task file second ask = grind (arith, second)
 
 -- words that ask for none of these are malformed
 pub no_form : (words : List (List ℕ)) → ((file : List ℕ) (options : Options) → ¬ (AskFor words (Play file options))) → ((task : Task) (file second : List ℕ) → words ≢ task_word task ∷ file ∷ second ∷ []) → ((seed : ℕ) (file second : List ℕ) → ¬ (AskFor words (Examine (Again (Some seed)) file second)))
@@ -217,27 +197,20 @@ no_options task words file second none is = (subst (AllByRecursion IsInBounds) (
 
 -- three items
 pub three_items : {X : Type 0} (items : List X) (one other third : X) → length items ≡ 3 → one ≡ get_or items 0 one → other ≡ get_or items 1 other → third ≡ get_or items 2 third → items ≡ one ∷ other ∷ third ∷ []
-three_items [] one other third size e f g = absurd (omega (arith, size))
-three_items (a ∷ []) one other third size e f g = absurd (omega (arith, size))
-three_items (a ∷ b ∷ []) one other third size e f g = absurd (omega (arith, size))
 three_items (a ∷ b ∷ c ∷ []) one other third size e f g = cc
 three_items (a ∷ b ∷ c ∷ d ∷ more) one other third size e f g = absurd (omega (size, arith))
+three_items items one other third size e f g = grind arith
 
 -- and two
 pub only_two : {X : Type 0} (items : List X) (one other : X) → length items ≡ 2 → one ≡ get_or items 0 one → other ≡ get_or items 1 other → items ≡ one ∷ other ∷ []
-only_two [] one other size e f = absurd (omega (arith, size))
-only_two (a ∷ []) one other size e f = absurd (omega (arith, size))
 only_two (a ∷ b ∷ []) one other size e f = cc
-only_two (a ∷ b ∷ c ∷ more) one other size e f = absurd (omega (arith, size))
+only_two items one other size e f = grind arith
 
 -- and four
 pub four_items : {X : Type 0} (items : List X) (one other third last : X) → length items ≡ 4 → one ≡ get_or items 0 one → other ≡ get_or items 1 other → third ≡ get_or items 2 third → last ≡ get_or items 3 last → items ≡ one ∷ other ∷ third ∷ last ∷ []
-four_items [] one other third last size e f g h = absurd (omega (arith, size))
-four_items (a ∷ []) one other third last size e f g h = absurd (omega (arith, size))
-four_items (a ∷ b ∷ []) one other third last size e f g h = absurd (omega (arith, size))
-four_items (a ∷ b ∷ c ∷ []) one other third last size e f g h = absurd (omega (arith, size))
 four_items (a ∷ b ∷ c ∷ d ∷ []) one other third last size e f g h = cc
 four_items (a ∷ b ∷ c ∷ d ∷ e' ∷ more) one other third last size e f g h = absurd (omega (size, arith))
+four_items items one other third last size e f g h = grind arith
 
 -- Words ask for one thing at most.
 
@@ -276,8 +249,7 @@ one_text one other low low' same = let first = ap head same in absurd (omega (ar
 
 -- what is among those of a kind is one of them
 among : (kind : ℕ → RunOption) (o : Option ℕ) (option : RunOption) → Contains (asked_if kind o) option → (n : ℕ) × (o ≡ Some n) × (kind n ≡ option)
-among kind None option there = absurd (contains_none option there)
-among kind (Some n) option there = ⊎_elim (λ same. (n, refl, same)) (λ later. absurd (contains_none option later)) (contains_cases (kind n) [] option there)
+among kind o option there = grind arith
 
 -- which option of a kind is among all that are asked
 abbrev IsAmong : Options → RunOption → Type 0
@@ -300,28 +272,19 @@ lone : (kind : ℕ → RunOption) (o : Option ℕ) (n : ℕ) → o ≡ Some n �
 lone kind o n is = subst (λ p. Contains (asked_if kind p) (kind n)) (sym is) (contains_first (kind n) [])
 
 asks : (options : Options) (option : RunOption) → IsAmong options option → Contains (all_asked options) option
-asks options (Seed n) is = contains_left (asked_if Seed options.seed) _ (Seed n) (lone Seed options.seed n is)
-asks options (Height n) is = contains_right (asked_if Seed options.seed) _ (Height n) (contains_left (asked_if Height options.height) _ (Height n) (lone Height options.height n is))
-asks options (Turns n) is =
-    contains_right (asked_if Seed options.seed) _ (Turns n) (contains_right (asked_if Height options.height) _ (Turns n) (contains_left (asked_if Turns options.turns) _ (Turns n) (lone Turns options.turns n is)))
-asks options (Players n) is =
-    contains_right (asked_if Seed options.seed) _ (Players n) (contains_right (asked_if Height options.height) _ (Players n)
-    (contains_right (asked_if Turns options.turns) _ (Players n) (lone Players options.players n is)))
+asks options option is = grind (arith, contains_left, lone, contains_right)
 
 -- what one list of options asks, each other one asks that has the same words
 also : (words : List (List ℕ)) (one other : Options) → Give words one → Give words other → (option : RunOption) → IsAmong one option → IsAmong other option
 also words one other given given' option is =
     let there = asks one option is in
-    let texts = map option_text (all_asked one) in
-    let said = Contains-permutation texts words (option_text option) given.1 (contains_map option_text (all_asked one) option there) in
+    let said = Contains-permutation (map option_text (all_asked one)) words (option_text option) given.1 (contains_map option_text (all_asked one) option there) in
     let from = map_cases option_text (all_asked other) (option_text option) (Contains-permutation words (map option_text (all_asked other)) (option_text option) (IsPermutation-sym (map option_text (all_asked other)) words given'.1) said) in
     let same = one_text from.from option (all_at IsInBounds (all_asked other) from.from given'.0 from.there) (all_at IsInBounds (all_asked one) option given.0 there) from.same in
     is_asked other option (subst (Contains (all_asked other)) same from.there)
 
 same_option : (o p : Option ℕ) → ((n : ℕ) → o ≡ Some n → p ≡ Some n) → ((n : ℕ) → p ≡ Some n → o ≡ Some n) → o ≡ p
-same_option None None there back = refl
-same_option None (Some n) there back = back n refl
-same_option (Some n) p there back = sym (there n refl)
+same_option o p there back = grind arith
 
 pub given_once : (words : List (List ℕ)) (one other : Options) → Give words one → Give words other → one ≡ other
 given_once words one other given given' =
@@ -345,8 +308,7 @@ unplayed words others word name given are gives other file options ask =
 pub unrun : (words others : List (List ℕ)) (word name : List ℕ) (given : Options) (players : ℕ) → words ≡ word ∷ name ∷ others → Give others given → given.players ≡ Some players
     → (rooms : ℕ) (options : Options) → ¬ (AskFor words (World rooms options))
 unrun words others word name given players are gives some rooms options ask =
-    let same = sym are ∙ ask.2.1 in
-    let options_same = given_once others given options gives (subst (λ ws. Give ws options) (sym (ap behind_two same)) ask.2.2) in
+    let options_same = given_once others given options gives (subst (λ ws. Give ws options) (sym (ap behind_two (sym are ∙ ask.2.1))) ask.2.2) in
     let none = sym some ∙ ap (λ (o : Options). o.players) options_same ∙ ask.1 in
     cc
 
@@ -369,21 +331,13 @@ letter_of (Dead file) = 100
 letter_of (World rooms options) = 108
 
 word_letter : (task : Task) → fourth (task_word task) ≡ task_letter task
-word_letter Check = refl
-word_letter Renew = refl
-word_letter Cause = refl
-word_letter (Again seed) = refl
-word_letter Weigh = refl
+word_letter task = grind arith
 
 play_letter : (players : Option ℕ) → fourth (play_word players) ≡ 121
-play_letter None = refl
-play_letter (Some players) = refl
+play_letter players = grind arith
 
 tells_letter : (words : List (List ℕ)) (request : Request) → AskFor words request → fourth (first words) ≡ letter_of request
-tells_letter words (Play file options) ask = ap (λ ws. fourth (first ws)) ask.1 ∙ play_letter options.players
-tells_letter words (Examine task file second) ask = ap (λ ws. fourth (first ws)) ask.1 ∙ word_letter task
-tells_letter words (Dead file) ask = ap (λ ws. fourth (first ws)) ask
-tells_letter words (World rooms options) ask = ap (λ ws. fourth (first ws)) ask.2.1
+tells_letter words request ask = grind (arith, fourth, first, play_letter, word_letter)
 
 -- a letter and the options after it name one task at most
 task_letters : (task : Task) → (k : ℕ) × (k ≤ 8) × (task_letter task ≡ 2 * k + 99)
@@ -394,17 +348,7 @@ task_letters (Again seed) = (3, omega arith, refl)
 task_letters Weigh = (2, omega arith, refl)
 
 one_task : (one other : Task) → task_letter one ≡ task_letter other → AllByRecursion IsInBounds (options_of one) → AllByRecursion IsInBounds (options_of other) → map option_text (options_of one) ≡ map option_text (options_of other) → one ≡ other
-one_task Check Check same low low' texts = refl
-one_task Renew Renew same low low' texts = refl
-one_task Cause Cause same low low' texts = refl
-one_task (Again None) (Again None) same low low' texts = refl
-one_task (Again None) (Again (Some n)) same low low' texts = absurd (cc)
-one_task (Again (Some m)) (Again None) same low low' texts = absurd (cc)
-one_task (Again (Some m)) (Again (Some n)) same low low' texts =
-    let seeds : m ≡ n = decimal_injective m n low.0 low'.0 (append_cancel_left (codes "seed=") (decimal m) (decimal n) (ap first texts)) in
-    ap (λ seed. Again (Some seed)) seeds
-one_task Weigh Weigh same low low' texts = refl
-one_task _ _ same low low' texts = absurd (omega (arith, same))
+one_task one other same low low' texts = grind (arith, decimal_injective, append_cancel_left, first)
 
 pub one_request : (words : List (List ℕ)) (one other : Request) → AskFor words one → AskFor words other → one ≡ other
 one_request words one other ask ask' = by one other ask ask' (sym (tells_letter words one ask) ∙ tells_letter words other ask') where
@@ -412,24 +356,16 @@ one_request words one other ask ask' = by one other ask ask' (sym (tells_letter 
   by (Play file options) (Play file' options') ask ask' letters =
       let same : play_word options.players ∷ file ∷ ask.0 ≡ play_word options'.players ∷ file' ∷ ask'.0 = sym ask.1 ∙ ask'.1 in
       let files : file ≡ file' = ap second same in
-      let others : ask.0 ≡ ask'.0 = ap behind_two same in
-      let given = given_once ask'.0 options options' (subst (λ ws. Give ws options) others ask.2) ask'.2 in
-      λ i. Play (files i) (given i)
+      λ i. Play (files i) ((given_once ask'.0 options options' (subst (λ ws. Give ws options) (ap behind_two same) ask.2) ask'.2) i)
   by (Examine task file log) (Examine task' file' log') ask ask' letters =
       let same : task_word task ∷ file ∷ log ∷ map option_text (options_of task) ≡ task_word task' ∷ file' ∷ log' ∷ map option_text (options_of task') = sym ask.1 ∙ ask'.1 in
-      let tasks : task ≡ task' = one_task task task' letters ask.0 ask'.0 (ap (λ ws. behind_one (behind_two ws)) same) in
       let files : file ≡ file' = ap second same in
-      let logs : log ≡ log' = ap (λ ws. first (behind_two ws)) same in
-      λ i. Examine (tasks i) (files i) (logs i)
+      λ i. Examine ((one_task task task' letters ask.0 ask'.0 (ap (λ ws. behind_one (behind_two ws)) same)) i) (files i) ((ap (λ ws. first (behind_two ws)) same) i)
   by (Dead file) (Dead file') ask ask' letters = let files : file ≡ file' = ap second (sym ask ∙ ask') in λ i. Dead (files i)
   by (World rooms options) (World rooms' options') ask ask' letters =
       let same : codes "world" ∷ decimal rooms ∷ ask.2.0 ≡ codes "world" ∷ decimal rooms' ∷ ask'.2.0 = sym ask.2.1 ∙ ask'.2.1 in
-      let few = ask.0.1 in
-      let few' = ask'.0.1 in
-      let numbers : rooms ≡ rooms' = decimal_injective rooms rooms' (omega (arith, few)) (omega (arith, few')) (ap second same) in
-      let others : ask.2.0 ≡ ask'.2.0 = ap behind_two same in
-      let given = given_once ask'.2.0 options options' (subst (λ ws. Give ws options) others ask.2.2) ask'.2.2 in
-      λ i. World (numbers i) (given i)
+      let numbers : rooms ≡ rooms' = decimal_injective rooms rooms' (omega (arith, ask.0.1)) (omega (arith, ask'.0.1)) (ap second same) in
+      λ i. World (numbers i) ((given_once ask'.2.0 options options' (subst (λ ws. Give ws options) (ap behind_two same) ask.2.2) ask'.2.2) i)
   by (Examine task file log) (Play file' options) ask ask' letters = let is = task_letters task in absurd (omega (arith, is.1, is.2, letters))
   by (Examine task file log) (Dead file') ask ask' letters = let is = task_letters task in absurd (omega (arith, is.1, is.2, letters))
   by (Examine task file log) (World rooms options) ask ask' letters = let is = task_letters task in absurd (omega (arith, is.1, is.2, letters))

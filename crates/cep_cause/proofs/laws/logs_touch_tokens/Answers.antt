@@ -2,8 +2,8 @@ use Rattle.std.proofs.Common.{length, arith}
 use Rattle.cep_cause.specs.Tokens.{start_tokens, listed_copies}
 use Rattle.cep_cause.proofs.Tokened.{made_later, numbered_one}
 use Rattle.cep_cause.proofs.TouchesThere.{tokens_start, touches_there, tokens_are_the_state, one_touches}
-use Rattle.cep_cause.proofs.laws.logs_touch_tokens.Goals as goal
 use Rattle.cep_rule.specs.Steps.{start_spot}
+use Rattle.cep_cause.proofs.laws.logs_touch_tokens.Goals as goal
 
 pub returns-clause-there : goal.returns-clause-there
 returns-clause-there c = λ program log is legal.

@@ -1,10 +1,10 @@
 use Rattle.std.proofs.Common.{◌<◌, ◌≤◌, ◌-◌, ◌%◌, ℕ, length, sym, ◌∙◌, arith}
 use Rattle.std.proofs.lemmas.Option.{slice_get_within}
 use Rattle.cep_base.proofs.Lists.{some_same, holds_at, get_mapped}
+use Rattle.cep_cause.proofs.NextRules.{rule_there, rules_stay}
 use Rattle.cep_cause.specs.Reorderings.{step_places}
 use Rattle.cep_cause.proofs.WrittenOrder.{length_map, numbers_within, telling_begins, telling_goes_on, told_in}
 use Rattle.cep_cause.proofs.Walked.{given_by, walk_begins, can_go, can_put, walk_goes_on, walk_stops, walk_ends, few_steps}
-use Rattle.cep_cause.proofs.NextRules.{rule_there, rules_stay}
 use Rattle.cep_cause.proofs.walking.walk.Goals as goal
 
 pub loop-i-init : goal.loop-i-init

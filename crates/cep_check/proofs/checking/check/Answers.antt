@@ -1,13 +1,13 @@
 use Rattle.std.proofs.Common.{◌↔◌}
 use Rattle.std.proofs.lemmas.Result.{IfOk-weaker}
+use Rattle.std.specs.Prelude.{ℕ}
 use Rattle.cep_rule.specs.declared.parts.Parts.{Parts}
 use Rattle.cep_log.specs.declared.log.Log.{Log}
 use Rattle.cep_log.specs.Legal.{IsLegal}
-use Rattle.std.specs.Prelude.{ℕ}
+use Rattle.cep_check.specs.Causes.{AcceptsLog, IsLogRefused, IsVerdict}
 use Rattle.cep_check.specs.declared.cause.Cause.{Cause}
 use Rattle.cep_check.specs.declared.cause.Verdict.{Verdict}
 use Rattle.cep_check.specs.declared.cause.Verdict.TheVariants.{Accepted, Refused}
-use Rattle.cep_check.specs.Causes.{AcceptsLog, IsLogRefused, IsVerdict}
 use Rattle.cep_check.proofs.checking.check.Goals as goal
 
 by_law : (program : Parts) (log : Log) → ((line : ℕ) (cause : Cause) → IsLogRefused program log line cause → IsLegal program log → ⊥) → (verdict : Verdict) → IsVerdict program log verdict → AcceptsLog verdict ↔ IsLegal program log

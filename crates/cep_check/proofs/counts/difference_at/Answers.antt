@@ -1,9 +1,9 @@
 use Rattle.std.proofs.Common.{◌≤◌, length, sym, arith}
-use Rattle.std.specs.FinMap as finite
 use Rattle.cep_base.proofs.Lists.{holds_at}
 use Rattle.cep_term.specs.Tree.{atom_of}
 use Rattle.cep_term.specs.Multiset.{IsEntry}
 use Rattle.cep_check.proofs.Differences.{state_longer, listing_longer, line_first, entry_first, two_counts, one_line}
+use Rattle.std.specs.FinMap as finite
 use Rattle.cep_check.proofs.counts.difference_at.Goals as goal
 
 pub returns-then-place-len : goal.returns-then-place-len

@@ -1,7 +1,7 @@
 use Rattle.std.proofs.Common.{◌≤◌, length, arith}
 use Rattle.std.specs.FinMap.{len-entries}
-use Rattle.std.specs.FinMap as finite
 use Rattle.cep_check.proofs.Differences.{same_lists}
+use Rattle.std.specs.FinMap as finite
 use Rattle.cep_check.proofs.counts.first_difference.Goals as goal
 
 pub returns : goal.returns

@@ -1,7 +1,7 @@
 use Rattle.std.proofs.Common.{◌≤◌, arith}
-use Rattle.std.specs.FinMap as finite
 use Rattle.cep_term.specs.Tree.{atom_of}
 use Rattle.cep_check.proofs.Differences.{lacks_here, enough_all}
+use Rattle.std.specs.FinMap as finite
 use Rattle.cep_check.proofs.counts.first_lack.Goals as goal
 
 pub returns-then-have-need : goal.returns-then-have-need

@@ -1,6 +1,6 @@
 use Rattle.std.proofs.Common.{◌≡◌, rules}
-use Rattle.std.specs.Prelude.{slice_get, Some}
 use Rattle.std.proofs.lemmas.Result.{IfOk-weaker}
+use Rattle.std.specs.Prelude.{slice_get, Some}
 use Rattle.cep_check.proofs.Options.{of_either}
 use Rattle.cep_check.proofs.Verdicts.{ready}
 use Rattle.cep_check.proofs.step.advance.Goals as goal

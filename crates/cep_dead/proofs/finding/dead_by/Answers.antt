@@ -1,8 +1,8 @@
 use Rattle.std.proofs.Common.{◌≡◌, ◌+◌, true, refl, sym, subst, ◌∙◌, arith}
+use Rattle.cep_dead.proofs.finding.dead_by.Goals.{in-Some+in_ok-push, in_default}
 use Rattle.cep_dead.specs.Held.{is_held}
 use Rattle.cep_dead.proofs.Passes.{AreDeadsBelow, passed_over, found, all_found, why_told, pass_told}
 use Rattle.cep_dead.proofs.finding.dead_by.Goals as goal
-use Rattle.cep_dead.proofs.finding.dead_by.Goals.{in-Some+in_ok-push, in_default}
 
 pub loop-i-preserved : goal.loop-i-preserved
 loop-i-preserved c =

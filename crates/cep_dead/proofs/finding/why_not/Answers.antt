@@ -6,8 +6,8 @@ use Rattle.cep_rule.specs.Typing.{IsTyped}
 use Rattle.cep_dead.specs.Tables.{IsOpen}
 use Rattle.cep_dead.specs.Rounds.{premises_of}
 use Rattle.cep_dead.specs.Held.{is_held, HasFewArguments}
-use Rattle.cep_dead.proofs.Judgements.{tree_at, typed_short, alone_in_range}
 use Rattle.cep_dead.proofs.Additions.{rule_premises}
+use Rattle.cep_dead.proofs.Judgements.{tree_at, typed_short, alone_in_range}
 use Rattle.cep_dead.proofs.Passes.{empty_told, rule_passes}
 use Rattle.cep_dead.proofs.finding.why_not.Goals as goal
 

@@ -1,12 +1,12 @@
-use Rattle.std.proofs.Common.{◌≡◌, ◌<◌, ◌+◌, ℕ, List, length, Some, refl, sym, ap, ◌∙◌, subst, arith}
+use Rattle.std.proofs.Common.{◌≡◌, ◌<◌, ◌+◌, length, refl, sym, ap, ◌∙◌, subst, arith}
 use Rattle.std.specs.Prelude.{slice_get}
 use Rattle.std.proofs.lemmas.Option.{slice_get_within}
 use Rattle.cep_base.proofs.Lists.{some_same}
+use Rattle.cep_cause.specs.Tokens.{listed_copies}
 use Rattle.cep_rule.specs.declared.rule.Rule.{Rule}
 use Rattle.cep_rule.specs.declared.parts.Parts.{Parts}
 use Rattle.cep_rule.specs.Program.{IsTypedRule}
 use Rattle.cep_rule.specs.Typing.{AreValues}
-use Rattle.cep_cause.specs.Tokens.{listed_copies}
 use Rattle.cep_graph.specs.Traces.{AreOfStart}
 use Rattle.cep_graph.specs.Trails.{TouchesBy}
 use Rattle.cep_graph.proofs.OneGraph.{none_so_far, one_more, all_done, has_rule}

@@ -1,4 +1,4 @@
-use Rattle.std.proofs.Common.{◌≡◌, ◌⊎◌, inl, inr, ℕ, ◌+◌, Bool, true, false, ◌&&◌, List, [], ◌∷◌, length, drop, refl, sym, ap, ◌∙◌, subst, arith}
+use Rattle.std.proofs.Common.{◌≡◌, ◌⊎◌, inl, inr, ◌+◌, Bool, true, false, ◌&&◌, List, [], ◌∷◌, length, drop, refl, sym, ◌∙◌, subst, arith}
 use Rattle.std.proofs.lemmas.Grind.{common_steps}
 use Rattle.std.specs.Prelude.{nat_lt}
 use Rattle.cep_term.specs.Tree.{AtomTree, atom_of}
@@ -8,8 +8,8 @@ use Rattle.cep_graph.specs.Queues.{Queues, queue_of}
 use Rattle.cep_graph.specs.Traces.{MakesFor}
 use Rattle.cep_graph.proofs.Taken.{drop_next}
 use Rattle.cep_graph.proofs.Made.{make_skip, make_add}
-use Rattle.cep_graph.proofs.making.make.Goals as goal
 use Rattle.cep_graph.proofs.making.make.Goals.{then-not-is_fact+in_ok-add, then-not-is_fact-via-then-not-is_fact, then-not-is_fact-via-else-not-is_fact+then-not-has, else-not-is_fact+else-not-has}
+use Rattle.cep_graph.proofs.making.make.Goals as goal
 
 one_false : (s t : Bool) → (s ≡ false) ⊎ (t ≡ false) → (s && t) ≡ false
 one_false true true (inl e) = e

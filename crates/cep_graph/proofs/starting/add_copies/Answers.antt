@@ -1,8 +1,7 @@
-use Rattle.std.proofs.Common.{◌≡◌, ◌<◌, List, length, get_or, Some, refl, sym, ap, ◌∙◌, subst, arith}
+use Rattle.std.proofs.Common.{◌<◌, List, length, get_or, refl, ap, ◌∙◌, arith}
+use Rattle.std.proofs.lemmas.Option.{slice_get-get_or}
 use Rattle.std.specs.Prelude.{slice_get}
-use Rattle.std.proofs.lemmas.Option.{slice_get-get_or, slice_get_within}
 use Rattle.cep_term.specs.Tree.{AtomTree, none}
-use Rattle.cep_graph.specs.Queues.{Queues, IsIdOf}
 use Rattle.cep_graph.proofs.Made.{copies_more}
 use Rattle.cep_graph.proofs.starting.add_copies.Goals as goal
 

@@ -1,13 +1,13 @@
-use Rattle.std.proofs.Common.{◌≡◌, ℕ, ◌+◌, ◌≤◌, List, length, take, replicate, sym, ap, subst, arith}
-use Rattle.std.specs.List.{flat_map}
-use Rattle.std.specs.FinMap as finite
+use Rattle.std.proofs.Common.{ℕ, ◌≤◌, List, length, take, replicate, sym, subst, arith}
 use Rattle.std.proofs.lemmas.List.{take_all}
+use Rattle.std.specs.List.{flat_map}
 use Rattle.std.proofs.lemmas.Option.{slice_get_within}
 use Rattle.cep_base.proofs.Lists.{holds_at}
 use Rattle.cep_term.specs.Tree.{AtomTree, atom_of}
 use Rattle.cep_term.specs.Multiset.{IsEntry}
 use Rattle.cep_graph.specs.Traces.{AreOfStart}
 use Rattle.cep_graph.proofs.Made.{starts_met, entry_more}
+use Rattle.std.specs.FinMap as finite
 use Rattle.cep_graph.proofs.starting.start_tokens.Goals as goal
 
 pub id_of-requires : goal.id_of-requires

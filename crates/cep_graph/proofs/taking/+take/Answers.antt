@@ -1,12 +1,11 @@
-use Rattle.std.proofs.Common.{◌≡◌, ◌↔◌, ◌⊎◌, ℕ, ◌+◌, ◌≤◌, true, false, not, List, [], ◌∷◌, ◌++◌, length, drop, refl, sym, ap, ◌∙◌, subst, arith, Contains}
+use Rattle.std.proofs.Common.{◌↔◌, ◌⊎◌, ℕ, ◌+◌, ◌≤◌, true, false, List, [], ◌∷◌, length, drop, refl, sym, ap, ◌∙◌, subst, arith, Contains}
 use Rattle.std.specs.Prelude.{slice_get}
 use Rattle.std.proofs.lemmas.List.{drop_all}
 use Rattle.std.proofs.lemmas.Option.{slice_get_within}
 use Rattle.cep_base.proofs.Lists.{holds_at}
-use Rattle.cep_term.specs.Tree.{AtomTree, atom_of, IsGroundAtom, IsAtomInRange}
+use Rattle.cep_term.specs.Tree.{AtomTree, IsGroundAtom, IsAtomInRange}
 use Rattle.cep_rule.specs.Patterns.{PremiseTree, premise_of}
 use Rattle.cep_rule.specs.Instances.{full_instance}
-use Rattle.cep_graph.specs.Queues.{Queues}
 use Rattle.cep_graph.specs.Traces.{TakesFor}
 use Rattle.cep_graph.proofs.Taken.{none_taken, fact_takes, none_takes, gone_takes, kept_takes, drop_next}
 use Rattle.cep_graph.proofs.taking.+take.Goals as goal

@@ -1,5 +1,4 @@
-use Rattle.std.proofs.Common.{ℕ, List, ◌∙◌, ap, sym, subst, ◌++◌, Contains}
-use Rattle.cep_base.proofs.Elements.{contains_left, contains_right, contains_either}
+use Rattle.std.proofs.Common.{◌∙◌, ap, ◌++◌}
 use Rattle.cep_graph.proofs.Taken.{joined}
 use Rattle.cep_graph.proofs.taking.add_all.Goals as goal
 

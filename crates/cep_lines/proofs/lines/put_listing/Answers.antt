@@ -1,12 +1,12 @@
 use Rattle.std.proofs.Common.{◌≤◌, ◌∙◌, ◌+◌, List, ℕ, drop, refl, subst}
 use Rattle.std.specs.List.{flat_map}
-use Rattle.std.specs.FinMap as finite
 use Rattle.std.specs.FinMap.{len-entries}
 use Rattle.cep_term.specs.Tree.{AtomTree, atom_of}
 use Rattle.cep_lines.specs.Lines.{have_line, listing}
+use Rattle.cep_lines.proofs.States.{typed_at_head}
 use Rattle.cep_lines.proofs.Adding.{adding_none, adding_next, adding_done, adding_breaks, lines_left, no_lines_left}
 use Rattle.cep_base.proofs.Outcomes.{on_err}
-use Rattle.cep_lines.proofs.States.{typed_at_head}
+use Rattle.std.specs.FinMap as finite
 use Rattle.cep_lines.proofs.lines.put_listing.Goals as goal
 
 pub put_have-requires : goal.put_have-requires

@@ -1,8 +1,8 @@
 use Rattle.std.proofs.Common.{drop}
 use Rattle.std.specs.List.{flat_map}
-use Rattle.std.specs.FinMap as finite
 use Rattle.cep_lines.specs.Lines.{have_line}
 use Rattle.cep_lines.proofs.Adding.{IsAdding}
+use Rattle.std.specs.FinMap as finite
 use Rattle.cep_lines.proofs.lines.put_listing.Given as goal
 
 abbrev pub invariant-loop-i : goal.invariant-loop-i

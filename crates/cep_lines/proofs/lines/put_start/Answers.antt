@@ -1,9 +1,9 @@
 use Rattle.std.proofs.Common.{[], refl, sym}
 use Rattle.std.proofs.lemmas.List.{append-nil}
 use Rattle.std.proofs.lemmas.Result.{on_ok_weaker, on_err_weaker}
+use Rattle.cep_base.proofs.Outcomes.{on_err}
 use Rattle.cep_lines.specs.Lines.{stage_line, listing, header}
 use Rattle.cep_lines.proofs.Adding.{adding_next, adding_done, adding_stops, adding_breaks, header_opened, header_with_height, header_with_line, header_with_stage}
-use Rattle.cep_base.proofs.Outcomes.{on_err}
 use Rattle.cep_lines.proofs.lines.put_start.Goals as goal
 
 pub returns-in_err-number-clause-err : goal.returns-in_err-number-clause-err

@@ -2,8 +2,8 @@ use Rattle.std.proofs.Common.{map, refl, lit<, inl, inr, ⊎_elim, arith}
 use Rattle.std.specs.Prelude.{string_bytes}
 use Rattle.cep_play.specs.Exchange.{talked, loaded}
 use Rattle.cep_play.proofs.Reported.{at_most}
-use Rattle.cep_play.proofs.Done.{tells_what_is_due, tells_anyway, among_all, failed_by, fails_by, no_fault, prefixes_asked}
 use Rattle.cep_play.proofs.Playing.{checked}
+use Rattle.cep_play.proofs.Done.{tells_what_is_due, tells_anyway, among_all, failed_by, fails_by, no_fault, prefixes_asked}
 use Rattle.cep_play.proofs.command.ceptre.Goals as goal
 
 pub returns-in-Ok-clause-answered : goal.returns-in-Ok-clause-answered

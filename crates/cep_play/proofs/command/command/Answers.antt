@@ -1,6 +1,6 @@
 use Rattle.std.proofs.Common.{map, subst, refl, inl, ◌∙◌}
-use Rattle.std.specs.Prelude.{string_bytes}
 use Rattle.std.proofs.lemmas.Result.{IfOk-weaker, on_err_weaker}
+use Rattle.std.specs.Prelude.{string_bytes}
 use Rattle.cep_base.proofs.Outcomes.{on_err}
 use Rattle.cep_words.specs.Words.{Play}
 use Rattle.cep_play.specs.Exchange.{talked, loaded, Went}

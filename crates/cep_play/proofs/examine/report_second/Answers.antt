@@ -1,6 +1,6 @@
 use Rattle.std.proofs.Common.{◌<◌, length, ap, inl, inr, sym, subst}
-use Rattle.std.specs.Prelude.{Err}
 use Rattle.std.proofs.lemmas.Result.{IfOk-weaker}
+use Rattle.std.specs.Prelude.{Err}
 use Rattle.cep_play.specs.Outside.{Report}
 use Rattle.cep_play.specs.Reports.{Reports}
 use Rattle.cep_play.proofs.Reported.{longer_file, long_reported}

@@ -1,10 +1,10 @@
 use Rattle.std.specs.Prelude.{IfOk, OnErr}
 use Rattle.std.proofs.Common.{subst}
+use Rattle.cep_play.specs.Exchange.{talked, Went}
+use Rattle.cep_play.specs.Outcome.{IsRunSaid}
 use Rattle.cep_run.specs.declared.settings.Settings.{Settings}
 use Rattle.cep_run.specs.Fronts.{FellShort}
 use Rattle.cep_run.specs.Said.{IsSomeSaid}
-use Rattle.cep_play.specs.Exchange.{talked, Went}
-use Rattle.cep_play.specs.Outcome.{IsRunSaid}
 use Rattle.cep_play.proofs.play.run.Goals as goal
 
 pub returns-clause-said : goal.returns-clause-said

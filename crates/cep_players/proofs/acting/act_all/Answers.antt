@@ -1,7 +1,7 @@
 use Rattle.std.proofs.Common.{◌≡◌, ◌+◌, ◌<◌, ◌∙◌, true, refl, ap, arith, Some}
 use Rattle.cep_players.proofs.BlockedLines.{slice_get, drop, take, on_err, admitted}
-use Rattle.cep_players.proofs.Going.{as_many_flags, split_admitted, next_left, gone_nowhere, gone_all, gone_past, gone_on, gone_out, gone_short}
 use Rattle.cep_players.proofs.RoundsThere.{next_offer}
+use Rattle.cep_players.proofs.Going.{as_many_flags, split_admitted, next_left, gone_nowhere, gone_all, gone_past, gone_on, gone_out, gone_short}
 use Rattle.cep_players.proofs.acting.act_all.Goals.{then-get+in_ok-next+in-Done, else-get}
 use Rattle.cep_players.proofs.acting.act_all.Goals as goal
 

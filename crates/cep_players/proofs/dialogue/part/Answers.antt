@@ -1,6 +1,6 @@
 use Rattle.std.proofs.Common.{◌≡◌, refl, sym, arith}
-use Rattle.cep_players.proofs.BlockedLines.{quiet_end, turns_end, IfOk-weaker, on_err_weaker, did_map, position_of}
 use Rattle.cep_run.proofs.Turns.{offered_here, crowds_here}
+use Rattle.cep_players.proofs.BlockedLines.{quiet_end, turns_end, IfOk-weaker, on_err_weaker, did_map, position_of}
 use Rattle.cep_players.proofs.Going.{not_for_all, ends_before, turn_went, turn_refused}
 use Rattle.cep_players.proofs.dialogue.part.Goals as goal
 

@@ -1,7 +1,7 @@
 use Rattle.std.proofs.Common.{ℕ, ◌≤◌, subst, arith}
-use Rattle.cep_players.proofs.BlockedLines.{on_err_weaker, did_map, did_then, all_weaker, on_err, Multiset, Offer, Parts, IsDerivable, Applies, applied_has_text, both_ok}
 use Rattle.cep_rule.specs.Limits.{IsHeight}
 use Rattle.cep_run.proofs.Turns.{offers_have_texts}
+use Rattle.cep_players.proofs.BlockedLines.{on_err_weaker, did_map, did_then, all_weaker, on_err, Multiset, Offer, Parts, IsDerivable, Applies, applied_has_text, both_ok}
 use Rattle.cep_players.proofs.Going.{as_many_flags, listing_refused, choosing_refused, round_cut, admitting_refused, did_ask, did_tell_some, acting_refused, round_acted}
 use Rattle.cep_players.proofs.round.round.Goals as goal
 

@@ -1,11 +1,11 @@
 use Rattle.std.proofs.Common.{◌≡◌, ◌+◌, List, [], ◌∷◌, ◌++◌, drop, sym, ap, subst, ◌∙◌, arith}
-use Rattle.cep_term.specs.Multiset.{Multiset, sum_of, copies_in, gained}
 use Rattle.cep_base.proofs.Lists.{holds_at}
+use Rattle.cep_term.specs.Multiset.{Multiset, sum_of, copies_in, gained}
 use Rattle.cep_term.specs.Tree.{AtomTree, IsGroundAtom, atom_of}
 use Rattle.cep_rule.specs.Typing.{is_fact}
 use Rattle.cep_rule.proofs.Copies.{none_yet, skipped, taken}
-use Rattle.cep_rule.proofs.gaining.gained.Goals as goal
 use Rattle.cep_rule.proofs.gaining.gained.Goals.{then-not-is_held+in_ok-hold+in_ok-copy+in_ok-push, else-not-is_held}
+use Rattle.cep_rule.proofs.gaining.gained.Goals as goal
 
 pub loop-i-init : goal.loop-i-init
 loop-i-init c = record {

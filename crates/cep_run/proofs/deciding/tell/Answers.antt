@@ -1,10 +1,10 @@
 use Rattle.std.proofs.Common.{◌≡◌, ◌++◌, ap, ◌∙◌, subst}
 use Rattle.std.proofs.lemmas.Result.{on_ok_weaker, on_err_weaker}
-use Rattle.cep_base.specs.Talk.{outs, Did}
 use Rattle.cep_rule.specs.Matching.{offers_of}
-use Rattle.cep_lines.specs.Lines.{offer_lines}
+use Rattle.cep_base.specs.Talk.{outs, Did}
 use Rattle.cep_base.proofs.Did.{did_put}
 use Rattle.cep_base.proofs.Outcomes.{on_err}
+use Rattle.cep_lines.specs.Lines.{offer_lines}
 use Rattle.cep_run.proofs.Framed.{did_part, did_nothing}
 use Rattle.cep_run.proofs.Unread.{untold_put}
 use Rattle.cep_run.proofs.deciding.tell.Goals as goal

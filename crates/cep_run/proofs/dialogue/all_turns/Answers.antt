@@ -2,13 +2,13 @@ use Rattle.std.proofs.Common.{◌≡◌, List, refl, sym, subst, ◌∙◌, arit
 use Rattle.cep_rule.specs.Matching.{offers_of, RoseBy}
 use Rattle.cep_step.specs.Deeds.{Deed}
 use Rattle.cep_run.specs.Costs.{IsDeedCost, AreDeedCosts}
-use Rattle.cep_run.proofs.Counting.{counted_nothing, counted_behind}
 use Rattle.cep_run.specs.Turn.{position_of}
+use Rattle.cep_run.proofs.Counting.{counted_nothing, counted_behind}
 use Rattle.cep_base.proofs.Did.{did_same, did_map, did_then}
-use Rattle.cep_run.proofs.Framed.{nothing_spent}
-use Rattle.cep_run.proofs.Runs.{run_begins, run_goes_on, turn_stops, run_over, turns_begin}
 use Rattle.cep_base.proofs.Outcomes.{on_err}
 use Rattle.cep_run.specs.Run.{quiet_end, turns_end}
+use Rattle.cep_run.proofs.Framed.{nothing_spent}
+use Rattle.cep_run.proofs.Runs.{run_begins, run_goes_on, turn_stops, run_over, turns_begin}
 use Rattle.cep_run.proofs.dialogue.all_turns.Goals as goal
 
 pub loop-group-init : goal.loop-group-init

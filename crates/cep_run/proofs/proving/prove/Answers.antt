@@ -1,14 +1,14 @@
 use Rattle.std.proofs.Common.{map, arith, subst, sym}
 use Rattle.std.proofs.lemmas.List.{length-map}
+use Rattle.std.proofs.lemmas.Result.{IfOk-weaker}
 use Rattle.cep_base.proofs.Lists.{holds_at, get_mapped}
 use Rattle.cep_base.proofs.Members.{in_got, to_contains}
 use Rattle.cep_term.specs.Tree.{atom_of}
 use Rattle.cep_term.specs.Values.{atom_instance}
 use Rattle.cep_rule.specs.Derivations.{ProofTree, proof_of}
+use Rattle.cep_rule.specs.declared.derivation.Derivation.{Derivation}
 use Rattle.cep_prove.specs.declared.answering.Answer.{Answer}
 use Rattle.cep_prove.specs.Answers.{IsLowestProof}
-use Rattle.std.proofs.lemmas.Result.{IfOk-weaker}
-use Rattle.cep_rule.specs.declared.derivation.Derivation.{Derivation}
 use Rattle.cep_run.specs.Turn.{IsProofWithin}
 use Rattle.cep_run.proofs.Backs.{some_answer, same_goal, is_within}
 use Rattle.cep_run.proofs.proving.prove.Goals as goal

@@ -1,8 +1,8 @@
 use Rattle.std.proofs.Common.{sym, ◌∙◌, arith}
 use Rattle.std.proofs.lemmas.Grind.{common_steps}
 use Rattle.std.proofs.lemmas.Int.{to_z-of_z}
-use mir.Syntax.{w64}
 use Rattle.cep_weigh.proofs.Sums.{first_factor, first_fits}
+use mir.Syntax.{w64}
 use Rattle.cep_weigh.proofs.judging.+factor_of.Goals as goal
 
 pub returns-then-part-pred-clause-value : goal.returns-then-part-pred-clause-value

@@ -1,7 +1,7 @@
 use Rattle.std.proofs.Common.{◌≡◌, rules, sym, ap, ◌∙◌, subst, arith, slice_get}
+use Rattle.cep_base.proofs.Lists.{some_same}
 use mir.Syntax.{w64}
 use mir.Val.{SFits}
-use Rattle.cep_base.proofs.Lists.{some_same}
 use Rattle.cep_weigh.specs.Weights.{left_sum, right_sum, Wants}
 use Rattle.cep_weigh.proofs.Sums.{unwanted}
 use Rattle.cep_weigh.proofs.Factors.{kept_all}

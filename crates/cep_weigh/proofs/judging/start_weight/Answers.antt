@@ -1,12 +1,12 @@
 use Rattle.std.proofs.Common.{◌≡◌, ◌+◌, ◌≤◌, sym, ap, ◌∙◌, subst, arith}
 use Rattle.std.proofs.lemmas.Int.{ints}
 use Rattle.std.proofs.lemmas.List.{take_all}
-use Rattle.std.specs.FinMap as finite
 use Rattle.cep_term.specs.Tree.{atom_of}
 use Rattle.cep_term.specs.Multiset.{copies_in}
 use Rattle.cep_rule.specs.declared.parts.Parts.{Parts}
 use Rattle.cep_weigh.specs.Weights.{weight_of}
 use Rattle.cep_weigh.proofs.Sums.{added, entry_worth, added_next, entries_are, copies_next, copies_front}
+use Rattle.std.specs.FinMap as finite
 use Rattle.cep_weigh.proofs.judging.start_weight.Goals as goal
 
 few : (start other : Parts) → other ≡ start → copies_in start.start ≤ 100000 → copies_in other.start ≤ 100000

@@ -1,6 +1,6 @@
 use Rattle.std.proofs.Common.{◌≡◌, ◌*◌, take, pos, neg_ℤ, ◌≤ℤ◌}
-use Rattle.std.specs.FinMap as finite
 use Rattle.cep_weigh.proofs.Sums.{added, entry_worth, copies_among}
+use Rattle.std.specs.FinMap as finite
 use Rattle.cep_weigh.proofs.judging.start_weight.Given as goal
 
 abbrev pub invariant-loop-i : goal.invariant-loop-i

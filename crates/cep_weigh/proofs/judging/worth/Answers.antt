@@ -1,8 +1,8 @@
 use Rattle.std.proofs.Common.{rules, arith}
 use Rattle.std.proofs.lemmas.Grind.{common_steps}
+use Rattle.cep_weigh.proofs.Sums.{worth_within}
 use mir.Syntax.{w64}
 use mir.Val.{SFits}
-use Rattle.cep_weigh.proofs.Sums.{worth_within}
 use Rattle.cep_weigh.proofs.judging.worth.Goals as goal
 
 pub returns-clause-low : goal.returns-clause-low

@@ -1,8 +1,8 @@
 use Rattle.std.proofs.Common.{rules, ap, ◌∙◌}
 use Rattle.std.proofs.lemmas.Int.{to_z-of_z}
+use Rattle.cep_base.specs.FirstNames.{under_name}
 use mir.Syntax.{w64}
 use mir.Val.{SFits}
-use Rattle.cep_base.specs.FirstNames.{under_name}
 use Rattle.cep_weigh.proofs.Numbered.{next_numbered}
 use Rattle.cep_weigh.proofs.Tabled.{linear_found}
 use Rattle.cep_weigh.proofs.numbering.numbered.Goals as goal

@@ -1,6 +1,7 @@
 use Rattle.std.proofs.Common.{◌≤◌, length, ◌∙◌, subst, arith}
+use Rattle.std.proofs.lemmas.Result.{IfOk-at_ok, IfErr-at_err}
 use Rattle.cep_weigh.specs.Claims.{claim_lines}
-use Rattle.cep_weigh.proofs.Lined.{none_done, one_done, number_short, all_said, fault_said, all_of_program, told_ok, told_err}
+use Rattle.cep_weigh.proofs.Lined.{none_done, one_done, number_short, all_said, fault_said, all_of_program}
 use Rattle.cep_weigh.proofs.reading.read_weights.Goals as goal
 
 pub loop-line-init : goal.loop-line-init
@@ -15,11 +16,11 @@ overflow_add-number c =
 pub loop-line-preserved : goal.loop-line-preserved
 loop-line-preserved c =
     one_done c.parts.result.now.signature (claim_lines c.args.bytes.now) c.loop-line.line-iterator c.next.new.self c.in-Some.line.now c.loop-line.number c.loop-line.claims c.in-Ok.after c.loop-line.invariant c.in-Some.ensures.steps
-    (told_ok c.in_ok-after.field-0 c.in-Ok.after _ c.in-Ok.is c.in_ok-after.ensures.after)
+    (IfOk-at_ok _ c.in-Ok.is c.in_ok-after.ensures.after)
 
 pub returns-in-Err-clause-fault : goal.returns-in-Err-clause-fault
 returns-in-Err-clause-fault c =
-    let why = told_err c.in_ok-after.field-0 c.in-Err.fault _ c.in-Err.is c.in_ok-after.ensures.fault in
+    let why = IfErr-at_err _ c.in-Err.is c.in_ok-after.ensures.fault in
     fault_said c.args.program.now c.parts.result.now c.args.bytes.now c.loop-line.line-iterator c.next.new.self c.in-Some.line.now c.loop-line.number c.loop-line.claims c.in-Err.fault c.parts.ensures.parts c.loop-line.invariant c.in-Some.ensures.steps why.0 why.1
 
 pub returns-clause-claims : goal.returns-clause-claims

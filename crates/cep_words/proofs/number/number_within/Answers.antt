@@ -1,7 +1,7 @@
 use Rattle.std.proofs.Common.{◌≡◌, sym, arith, ◌∙◌}
 use Rattle.std.proofs.lemmas.Fmt.{decimal_injective}
-use Rattle.cep_words.proofs.number.number_within.Goals as goal
 use Rattle.cep_words.proofs.number.number_within.Goals.{else-from-value-via-then-from-value+else-value-from, else-from-value-via-else-from-value}
+use Rattle.cep_words.proofs.number.number_within.Goals as goal
 
 pub returns-else-from-value : goal.returns-else-from-value
 returns-else-from-value c = λ value within is.

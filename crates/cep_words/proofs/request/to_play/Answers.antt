@@ -1,6 +1,6 @@
 use Rattle.std.proofs.Common.{map, ap, ◌∙◌, ◌∷◌, sym, drop, take, length, ◌-◌}
-use Rattle.std.specs.Prelude.{string_bytes}
 use Rattle.std.proofs.lemmas.Slice.Eq.{bytes_eq-Decides}
+use Rattle.std.specs.Prelude.{string_bytes}
 use Rattle.cep_words.proofs.OneRequest.{two_items, unplayed}
 use Rattle.cep_words.proofs.request.to_play.Goals as goal
 

@@ -1,10 +1,9 @@
-use Rattle.std.proofs.Common.{◌≡◌, ◌∙◌, map, rules}
-use Rattle.std.specs.Map.Iter.{deref_pair}
+use Rattle.std.proofs.Common.{◌≡◌, ◌∙◌, map, rules, arith}
 use Rattle.std.proofs.lemmas.Map.Iter.{iter_end}
 use Rattle.std.proofs.lemmas.Simd.{map-map}
-use Rattle.cep_base.proofs.first_names.FirstNames.names.Goals as goal
-use Rattle.std.proofs.Common.{arith}
+use Rattle.std.specs.Map.Iter.{deref_pair}
 use Rattle.std.proofs.lemmas.Grind.{common_steps}
+use Rattle.cep_base.proofs.first_names.FirstNames.names.Goals as goal
 
 pub returns : goal.returns
 returns g c =

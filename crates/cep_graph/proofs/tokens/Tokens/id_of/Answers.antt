@@ -1,8 +1,8 @@
-use Rattle.std.proofs.Common.{◌≡◌, ◌<◌, List, [], ◌∷◌, ◌++◌, length, map, ap, ◌∙◌, sym, subst, arith}
+use Rattle.std.proofs.Common.{◌<◌, [], ◌∷◌, ◌++◌, length, map, ap, ◌∙◌, sym, subst, arith}
 use Rattle.std.proofs.lemmas.Grind.{common_steps}
 use Rattle.std.proofs.lemmas.List.{length-map}
 use Rattle.cep_term.specs.Tree.{atom_of}
-use Rattle.cep_graph.specs.Queues.{Queues, GetsId}
+use Rattle.cep_graph.specs.Queues.{GetsId}
 use Rattle.cep_graph.proofs.Made.{meets_new}
 use Rattle.cep_graph.proofs.tokens.Tokens.id_of.Goals as goal
 
