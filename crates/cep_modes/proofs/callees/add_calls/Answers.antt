@@ -2,6 +2,7 @@ use Rattle.std.proofs.Common.{ap, ◌∙◌, ◌∷◌, [], ◌++◌, arith}
 use Rattle.std.proofs.lemmas.Grind.{common_steps}
 use Rattle.cep_term.specs.Tree.{atom_of}
 use Rattle.cep_modes.specs.Places.{holds}
+use Rattle.cep_base.proofs.Lists.{holds_at}
 use Rattle.cep_modes.proofs.Looping.{call_found, goal_learnt}
 use Rattle.cep_modes.proofs.callees.add_calls.Goals as goal
 
@@ -18,3 +19,9 @@ returns-clause-found c = grind (arith, common_steps)
 
 pub returns-clause-known : goal.returns-clause-known
 returns-clause-known c = grind (arith, common_steps)
+
+pub place-requires : goal.place-requires
+place-requires c = rw c.loop-i.auto.known (holds_at _ c.args.goals.now c.loop-i.i (atom_of c.get-goal.result.now) c.requires c.get-goal.ensures)
+
+pub learn_all-requires : goal.learn_all-requires
+learn_all-requires c = rw c.loop-i.auto.known ((holds_at _ c.args.goals.now c.loop-i.i (atom_of c.get-goal.result.now) c.requires c.get-goal.ensures).in_range)

@@ -1,5 +1,6 @@
 use Rattle.std.proofs.Common.{ap, ◌++◌, ◌∙◌, arith}
 use Rattle.std.proofs.lemmas.Grind.{common_steps}
+use Rattle.cep_base.proofs.Lists.{holds_at}
 use Rattle.cep_modes.proofs.Looping.{rule_found}
 use Rattle.cep_modes.proofs.callees.calls_of_rules.Goals as goal
 
@@ -8,3 +9,9 @@ loop-i-preserved c = rule_found c.args.rules.now c.loop-i.i c.get.result.now c.l
 
 pub returns : goal.returns
 returns c = grind (arith, common_steps)
+
+pub calls_of_rule-requires-clause-premises : goal.calls_of_rule-requires-clause-premises
+calls_of_rule-requires-clause-premises c = holds_at _ c.args.rules.now c.loop-i.i c.get.result.now c.requires.premises c.get.ensures
+
+pub calls_of_rule-requires-clause-backs : goal.calls_of_rule-requires-clause-backs
+calls_of_rule-requires-clause-backs c = holds_at _ c.args.rules.now c.loop-i.i c.get.result.now c.requires.backs c.get.ensures
