@@ -1,5 +1,5 @@
 use Rattle.std.proofs.Common.{◌≡◌, rules, sym, ap, ◌∙◌, subst, arith, slice_get}
-use Rattle.cep_base.proofs.Lists.{some_same}
+use Rattle.cep_base.proofs.Lists.{holds_at, some_same}
 use mir.Syntax.{w64}
 use mir.Val.{SFits}
 use Rattle.cep_weigh.specs.Weights.{left_sum, right_sum, Wants}
@@ -25,3 +25,11 @@ pub returns-clause-runs : goal.returns-clause-runs
 returns-clause-runs c =
     c.claims_hold_of_runs.ensures.kept c.args.program.now c.args.weight.now.claim c.args.weight.now.sum c.requires.linear c.requires.signs
     (kept_all c.args.program.now c.parts.result.now c.args.weight.now.claim c.args.weight.now.sum c.as_slice-parts.result.now c.loop-i.i c.parts.ensures.parts c.as_slice-parts.ensures (omega arith) c.loop-i.invariant)
+
+pub left_sum-left-requires-clause-few : goal.left_sum-left-requires-clause-few
+left_sum-left-requires-clause-few c =
+    (holds_at _ c.args.program.now.rules c.loop-i.i c.get-rule.result.now c.parts.ensures.kept.small.each_rule (rw c.parts.ensures.parts at c.get-rule.ensures)).premises
+
+pub right_sum-right-requires-clause-few : goal.right_sum-right-requires-clause-few
+right_sum-right-requires-clause-few c =
+    (holds_at _ c.args.program.now.rules c.loop-i.i c.get-rule.result.now c.parts.ensures.kept.small.each_rule (rw c.parts.ensures.parts at c.get-rule.ensures)).right
