@@ -1,4 +1,4 @@
-use Rattle.std.proofs.Common.{◌≡◌, List, refl}
+use Rattle.std.proofs.Common.{◌≡◌, List, refl, rules}
 use Rattle.cep_term.specs.Tree.{Tree}
 use Rattle.cep_rule.specs.declared.rule.Rule.{Rule}
 use Rattle.cep_step.specs.Passing.{Passes, IsExcess}
@@ -11,3 +11,9 @@ returns-in-Passes-clause-stepped g c =
     let weighed = rw c.in-Passes.is at of.is in
     chosen_once of (λ (rule : Rule) (values : List Tree). (c.args.self ≡ c.args.self) × Passes c.args.program.now.signature rule values c.args.self.state c.in-Passes.limit × IsExcess c.args.program.now.signature rule values c.args.self.state c.in-Passes.limit c.in-Passes.number)
     (refl, weighed.0, weighed.1 (λ _. of.small))
+
+pub returns-in-Passes-clause-ticked : goal.returns-in-Passes-clause-ticked
+returns-in-Passes-clause-ticked g c = λ _ _ _. refl
+
+pub returns-in_ok-go-in-Within-clause-ticked : goal.returns-in_ok-go-in-Within-clause-ticked
+returns-in_ok-go-in-Within-clause-ticked g c = search rules
