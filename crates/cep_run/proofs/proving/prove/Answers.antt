@@ -1,4 +1,4 @@
-use Rattle.std.proofs.Common.{map, arith, subst, sym}
+use Rattle.std.proofs.Common.{map, arith, subst, sym, rules}
 use Rattle.std.proofs.lemmas.List.{length-map}
 use Rattle.std.proofs.lemmas.Result.{IfOk-weaker}
 use Rattle.cep_base.proofs.Lists.{holds_at, get_mapped}
@@ -29,3 +29,9 @@ returns-clause-proved g c =
     let same = same_goal c.instances_of_instances.ensures.alike program c.args.height goal_is c.args.known.now answer.values c.requires.valued (c.in_ok-list.ensures.answers.no_other answer.values there) in
     let within = is_within program c.args.height (atom_instance answer.values goal_is) (atom_instance c.args.known.now goal_is) (proof_of answer.proof) same lowest c.requires.derivable in
     IfOk-weaker c.copy_proof.result _ (λ (copied : Derivation). IsProofWithin program c.args.height (atom_instance c.args.known.now goal_is) (proof_of copied)) (λ copied e. subst (λ (proof : ProofTree). IsProofWithin program c.args.height (atom_instance c.args.known.now goal_is) proof) (sym e) within) c.copy_proof.ensures
+
+pub returns-in_err-list-clause-ticked : goal.returns-in_err-list-clause-ticked
+returns-in_err-list-clause-ticked g c = search rules
+
+pub returns-clause-ticked : goal.returns-clause-ticked
+returns-clause-ticked g c = search rules
