@@ -1,0 +1,6 @@
+use Rattle.std.proofs.Common.{rules, arith}
+use Rattle.std.proofs.lemmas.Grind.{common_steps}
+use Rattle.cep_round.proofs.place.place_of.Goals as goal
+
+pub loop-place-init : goal.loop-place-init
+loop-place-init g c = search rules
