@@ -77,12 +77,16 @@ module _ (source : Source) (name : List ℕ) where
 
   pub somewhere : is_somewhere source name ≡ true → (in_space : Space) × (is_in source in_space name ≡ true)
   somewhere h = among (has space.Sorts) (has space.Constructors) (has space.Predicates) (has space.Stages) (has space.Contexts) (has space.Rules) refl refl refl refl refl refl h
+
   none_of_six : (s c p t n r : Bool) → (s || c || p || t || n || r) ≡ false → (s ≡ false) × (c ≡ false) × (p ≡ false) × (t ≡ false) × (n ≡ false) × (r ≡ false)
   none_of_six s c p t n r h = grind arith
+
   pub nowhere : is_somewhere source name ≡ false → (in_space : Space) → is_in source in_space name ≡ false
   nowhere h in_space = grind (arith, none_of_six, has)
+
   pub nowhere_of : ((in_space : Space) → is_in source in_space name ≡ false) → is_somewhere source name ≡ false
   nowhere_of no_ = rw (no_ space.Sorts, no_ space.Constructors, no_ space.Predicates, no_ space.Stages, no_ space.Contexts, no_ space.Rules) refl
+
   pub somewhere_of : (in_space : Space) → is_in source in_space name ≡ true → is_somewhere source name ≡ true
   somewhere_of in_space is = grind (arith, nowhere)
 
@@ -95,10 +99,13 @@ stage_count (elem.Stage name ∷ side) = omega (arith, sum_by-cons (λ (other : 
 
 both_true : (a b : Bool) → a ≡ true → b ≡ true → (a && b) ≡ true
 both_true a b x y = rw (x, y) refl
+
 not_fit : (atom : RawAtom) → is_fit atom ≡ false → ¬ IsFitWritten atom
 not_fit atom e is = false≢true (sym e ∙ both_true (nat_le (nodes_written atom) MOST_NODES) (nat_le (depth_written atom) MOST_DEPTH) (le-leb (nodes_written atom) MOST_NODES is.nodes) (le-leb (depth_written atom) MOST_DEPTH is.depth))
+
 not_qui : (rule : RawRule) → is_qui_rule rule ≡ false → ¬ IsQuiRule rule
 not_qui rule e is = grind (arith, both_true, eq-eqb, stage_count, is.qui, is.from, is.to)
+
 none_of : {X : Type 0} (o : Option X) → is_some o ≡ false → o ≡ None
 none_of o e = grind arith
 
@@ -109,8 +116,10 @@ module _ (source : Source) where
 
   nothing : AreWrong []
   nothing fault found = absurd (in_nil fault found)
+
   both : (xs ys : List Fault) → AreWrong xs → AreWrong ys → AreWrong (xs ++ ys)
   both xs ys a b fault found = ⊎_elim (a fault) (b fault) (in_parts xs ys fault found)
+
   each : {X : Type 0} (f : X → List Fault) (xs : List X) → ((x : X) → In xs x → AreWrong (f x)) → AreWrong (flat_map f xs)
   each f xs a fault found = let t = through f xs fault found in a t.from t.member fault t.given
 
@@ -169,6 +178,7 @@ module _ (source : Source) where
 
   unfit_sound : (atom : RawAtom) → In (state_atoms source) atom → AreWrong (unfit_faults atom)
   unfit_sound atom m fault found = let d = differing (is_fit atom) (wrong OverLimit atom.name.from) fault found in over atom.name.from (IsOver.unfit atom (to_contains (state_atoms source) atom m) (not_fit atom d.0) refl) d.1
+
   state_written : (atom : RawAtom) → In (state_atoms source) atom → In (atoms_written source) atom
   state_written atom m = in_right (needed_atoms source) _ atom (in_right (made_atoms source) _ atom (in_right (clause_atoms source) _ atom m))
 
@@ -380,22 +390,31 @@ module _ (source : Source) where
 
 is_one : (w fault : Fault) → fault ≡ w → In (w ∷ []) fault
 is_one w fault e = subst (In (w ∷ [])) (sym e) (here w [])
+
 unless : (b : Bool) (w fault : Fault) → b ≡ false → fault ≡ w → In (let found : List Fault = if b then [] else w ∷ [] in found) fault
 unless b w fault e is = grind (arith, is_one)
+
 when : (b : Bool) (w fault : Fault) → b ≡ true → fault ≡ w → In (let found : List Fault = if b then w ∷ [] else [] in found) fault
 when b w fault e is = grind (arith, is_one)
+
 refuted : {P : Type 0} (b v : Bool) → (b ≡ true → P) → ¬ P → b ≡ v → b ≡ false
 refuted b v h n e = grind arith
+
 both_parts : (a b : Bool) → (a && b) ≡ true → (a ≡ true) × (b ≡ true)
 both_parts a b e = grind arith
+
 or_left : (a b : Bool) → a ≡ true → (a || b) ≡ true
 or_left a b e = grind arith
+
 or_right : (a b : Bool) → b ≡ true → (a || b) ≡ true
 or_right a b e = grind arith
+
 unequal : (a b : ℕ) → a ≢ b → (a == b) ≡ false
 unequal a b ne = refuted (a == b) (a == b) (eqb-true a b) ne refl
+
 is_qui_by : (rule : RawRule) → is_qui_rule rule ≡ true → IsQuiRule rule
 is_qui_by rule e = grind (arith, both_parts, eqb-true, stage_count)
+
 is_fit_by : (atom : RawAtom) → is_fit atom ≡ true → IsFitWritten atom
 is_fit_by atom e = grind (arith, both_parts (nat_le (nodes_written atom) MOST_NODES) (nat_le (depth_written atom) MOST_DEPTH) e)
 
@@ -409,38 +428,55 @@ module _ (source : Source) (fault : Fault) where
 
   abbrev b : List Fault
   b = a ++ flat_map (con_faults source) (cons_of source)
+
   abbrev d : List Fault
   d = b ++ flat_map (rule_faults source) (rules_of source)
+
   abbrev e : List Fault
   e = d ++ flat_map (clause_faults source) (clauses_of source)
+
   abbrev f : List Fault
   f = e ++ flat_map (context_faults source) (contexts_of source)
+
   abbrev g : List Fault
   g = f ++ flat_map (use_faults source space.Stages) (interactives_of source)
+
   abbrev h : List Fault
   h = g ++ flat_map (trace_faults source) (traces_of source)
+
   from_h : In h fault → Found
   from_h m = in_left (h ++ count_faults source) _ fault (in_left h _ fault m)
+
   from_f : In f fault → Found
   from_f m = from_h (in_left g _ fault (in_left f _ fault m))
+
   from_d : In d fault → Found
   from_d m = from_f (in_left e _ fault (in_left d _ fault m))
+
   of_pred : (pred : PredItem) → In (preds_of source) pred → In (predicate_faults source pred) fault → Found
   of_pred pred m k = from_d (in_left b _ fault (in_left a _ fault (via (predicate_faults source) (preds_of source) pred fault m k)))
+
   of_con : (con : ConItem) → In (cons_of source) con → In (con_faults source con) fault → Found
   of_con con m k = from_d (in_left b _ fault (in_right a _ fault (via (con_faults source) (cons_of source) con fault m k)))
+
   of_rule : (rule : RuleItem) → In (rules_of source) rule → In (rule_faults source rule) fault → Found
   of_rule rule m k = from_d (in_right b _ fault (via (rule_faults source) (rules_of source) rule fault m k))
+
   of_clause : (clause : ClauseItem) → In (clauses_of source) clause → In (clause_faults source clause) fault → Found
   of_clause clause m k = from_f (in_left e _ fault (in_right d _ fault (via (clause_faults source) (clauses_of source) clause fault m k)))
+
   of_context : (context : ContextItem) → In (contexts_of source) context → In (context_faults source context) fault → Found
   of_context context m k = from_f (in_right e _ fault (via (context_faults source) (contexts_of source) context fault m k))
+
   of_interactive : (name : Span) → In (interactives_of source) name → In (use_faults source space.Stages name) fault → Found
   of_interactive name m k = from_h (in_left g _ fault (in_right f _ fault (via (use_faults source space.Stages) (interactives_of source) name fault m k)))
+
   of_trace : (trace : TraceItem) → In (traces_of source) trace → In (trace_faults source trace) fault → Found
   of_trace trace m k = from_h (in_right g _ fault (via (trace_faults source) (traces_of source) trace fault m k))
+
   of_counts : In (count_faults source) fault → Found
   of_counts m = in_left (h ++ count_faults source) _ fault (in_right h _ fault m)
+
   of_traces : (traces : List TraceItem) → traces_of source ≡ traces → In (traces_faults source traces) fault → Found
   of_traces traces is m = in_right (h ++ count_faults source) _ fault (in_same _ (traces_faults source traces) fault (ap (traces_faults source) is) m)
 
@@ -451,28 +487,40 @@ module _ (source : Source) (fault : Fault) where
 
     abbrev rb : List Fault
     rb = ra ++ flat_map (elem_faults source true) rule.raw.right
+
     abbrev rd : List Fault
     rd = rb ++ premise_faults source false rule.raw.left MOST_PREMISES
+
     abbrev re : List Fault
     re = rd ++ premise_faults source true rule.raw.left MOST_BACKS
+
     abbrev rf : List Fault
     rf = re ++ right_faults rule.raw.right
+
     abbrev rg : List Fault
     rg = rf ++ variable_faults source (atoms_of rule.raw.left)
+
     from_rd : In rd fault → Found
     from_rd k = of_rule rule m (in_left rg _ fault (in_left rf _ fault (in_left re _ fault (in_left rd _ fault k))))
+
     from_left : (elem_ : RawElem) → In rule.raw.left elem_ → In (elem_faults source false elem_) fault → Found
     from_left elem_ at k = from_rd (in_left rb _ fault (in_left ra _ fault (via (elem_faults source false) rule.raw.left elem_ fault at k)))
+
     from_right : (elem_ : RawElem) → In rule.raw.right elem_ → In (elem_faults source true elem_) fault → Found
     from_right elem_ at k = from_rd (in_left rb _ fault (in_right ra _ fault (via (elem_faults source true) rule.raw.right elem_ fault at k)))
+
     from_premises : In (premise_faults source false rule.raw.left MOST_PREMISES) fault → Found
     from_premises k = from_rd (in_right rb _ fault k)
+
     from_backs : In (premise_faults source true rule.raw.left MOST_BACKS) fault → Found
     from_backs k = of_rule rule m (in_left rg _ fault (in_left rf _ fault (in_left re _ fault (in_right rd _ fault k))))
+
     from_rights : In (right_faults rule.raw.right) fault → Found
     from_rights k = of_rule rule m (in_left rg _ fault (in_left rf _ fault (in_right re _ fault k)))
+
     from_variables : In (variable_faults source (atoms_of rule.raw.left)) fault → Found
     from_variables k = of_rule rule m (in_left rg _ fault (in_right rf _ fault k))
+
     from_home : In (home_faults rule) fault → Found
     from_home k = of_rule rule m (in_right rg _ fault k)
 
@@ -483,6 +531,7 @@ module _ (source : Source) (fault : Fault) where
 
   of_needed : (atom : RawAtom) → In (needed_atoms source) atom → In (names_faults source false atom) fault → Found
   of_needed atom at k = grind (arith, through, from_left, side_atom_in, in_left)
+
   of_made : (atom : RawAtom) → In (made_atoms source) atom → In (side_atom_faults source true atom) fault → Found
   of_made atom at k = grind (arith, through, from_right, side_atom_in)
 
@@ -505,6 +554,7 @@ module _ (source : Source) (fault : Fault) where
 
   begun_in : (start : RawStart) (atom : RawAtom) → In (start_listed start) atom → not (stands_for_context source atom) ≡ true → In (state_faults source atom) fault → In (begin_faults source start) fault
   begun_in start atom at itself k = grind (arith, in_nil, via, told_by)
+
   from_begin : (trace : TraceItem) → In (traces_of source) trace → In (begin_faults source trace.start) fault → Found
   from_begin trace m k = of_trace trace m (in_left (use_faults source space.Stages trace.stage ++ begin_faults source trace.start) _ fault (in_right (use_faults source space.Stages trace.stage) _ fault k))
 
@@ -520,6 +570,7 @@ module _ (source : Source) (fault : Fault) where
 
   names_state : (atom : RawAtom) → In (names_faults source true atom) fault → In (state_faults source atom) fault
   names_state atom k = in_left (names_faults source true atom ++ back_faults source atom) _ fault (in_left (names_faults source true atom) _ fault k)
+
   back_state : (atom : RawAtom) → In (back_faults source atom) fault → In (state_faults source atom) fault
   back_state atom k = in_left (names_faults source true atom ++ back_faults source atom) _ fault (in_right (names_faults source true atom) _ fault k)
 
@@ -539,10 +590,13 @@ module _ (source : Source) (fault : Fault) where
 
   use_at : (in_space : Space) (other name : Span) → name ≡ other → In (use_faults source in_space name) fault → In (use_faults source in_space other) fault
   use_at in_space other name is k = in_same (use_faults source in_space other) (use_faults source in_space name) fault (ap (use_faults source in_space) (sym is)) k
+
   staged_in : (made : Bool) (elem_ : RawElem) (name : Span) → In (stages_at elem_) name → In (use_faults source space.Stages name) fault → In (elem_faults source made elem_) fault
   staged_in made elem_ name at k = grind (arith, in_nil, use_at, in_one)
+
   named_in : (start : RawStart) (name : Span) → In (contexts_at start) name → In (use_faults source space.Contexts name) fault → In (begin_faults source start) fault
   named_in start name at k = grind (arith, use_at, in_one, in_nil)
+
   of_argument : (args : List Span) (name : Span) → In args name → In (use_faults source space.Sorts name) fault → In (argument_faults source args) fault
   of_argument args name at k = in_left (flat_map (use_faults source space.Sorts) args) _ fault (via (use_faults source space.Sorts) args name fault at k)
 
@@ -594,6 +648,7 @@ module _ (source : Source) (fault : Fault) where
 
   back_in : (atom : RawAtom) → kind_of source atom ≡ Some Back → fault ≡ wrong BwdInState atom.name.from → In (back_faults source atom) fault
   back_in atom is e_ = in_same (back_faults source atom) (back_by (Some Back) atom.name.from) fault (ap (λ (o : Option PredKind). back_by o atom.name.from) is) (is_one _ fault e_)
+
   linear_one : (its : PredKind) (at : ℕ) → is_backward its ≡ false → fault ≡ wrong LinearInClause at → In (linear_by (Some its) at) fault
   linear_one its at n is = grind (arith, is_one)
 
@@ -627,6 +682,7 @@ module _ (source : Source) (fault : Fault) where
 
   abbrev cc_ : List Fault
   cc_ = cp ++ past_most (λ con. con.name.from) (cons_of source) MOST_CONS
+
   abbrev cr : List Fault
   cr = cc_ ++ past_most (λ rule. rule.raw.at) (rules_of source) MOST_RULES
 

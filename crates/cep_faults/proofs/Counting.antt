@@ -28,8 +28,10 @@ both_true a b e = grind arith
 
 first_byte : (a b : ℕ) (xs ys : List ℕ) → a ∷ xs ≡ b ∷ ys → a ≡ b
 first_byte a b xs ys e = cc
+
 stop_or_mark : (xs ys : List ℕ) → stop ∷ xs ≡ mark ∷ ys → ⊥
 stop_or_mark xs ys e = let here : ◌≡◌ {A = ℕ} 46 43 = first_byte 46 43 xs ys e in omega arith
+
 mark_or_stop : (xs ys : List ℕ) → mark ∷ xs ≡ stop ∷ ys → ⊥
 mark_or_stop xs ys e = let here : ◌≡◌ {A = ℕ} 43 46 = first_byte 43 46 xs ys e in omega arith
 
@@ -47,6 +49,7 @@ count_again n m rest rest' e = grind (arith, stop_or_mark, mark_or_stop)
 
 equal_bytes : (one other : List ℕ) → one ≡ other → bytes_eq one other ≡ true
 equal_bytes one other is = (bytes_eq-Decides one other).1 is
+
 both_hold : (a b : Bool) → a ≡ true → b ≡ true → (a && b) ≡ true
 both_hold a b one other = ap (λ x. x && b) one ∙ other
 
@@ -129,18 +132,25 @@ or_true b = grind arith
 
 or_move : (p q r : Bool) → (p || (q || r)) ≡ ((q || p) || r)
 or_move p q r = grind arith
+
 or_none : (b : Bool) → (b || false) ≡ b
 or_none b = grind arith
+
 both_parts : (a b : Bool) → (a && b) ≡ true → (a ≡ true) × (b ≡ true)
 both_parts a b e = grind arith
+
 same_bytes : (name : List ℕ) → bytes_eq name name ≡ true
 same_bytes name = (bytes_eq-Decides name name).1 refl
+
 same_number : (n : ℕ) → (n == n) ≡ true
 same_number n = eq-eqb n n refl
+
 pub not_true : (a b : Bool) → a ≡ not b → a ≡ false → b ≡ true
 not_true a b is was = grind arith
+
 pub not_false : (a b : Bool) → a ≡ not b → a ≡ true → b ≡ false
 not_false a b is was = grind arith
+
 cut_both : (a b c m : ℕ) → c ≡ a + b → min (min a m + min b m) m ≡ min c m
 cut_both a b c m is = omega (arith, is)
 
@@ -321,6 +331,7 @@ module _ (source : Source) where
 
 pub first_more : (atoms : List RawAtom) (i : ℕ) (atom : RawAtom) → i < length atoms → atom ≡ get_or atoms i atom → take (i + 1) atoms ≡ take i atoms ++ atom ∷ []
 first_more atoms i atom within at = take_more atoms i atom within ∙ ap (λ y. take i atoms ++ y ∷ []) (sym at)
+
 pub listed_more : (g : RawAtom → List RawAtom) (atoms : List RawAtom) (i : ℕ) (atom : RawAtom) → i < length atoms → atom ≡ get_or atoms i atom → flat_map g (take (i + 1) atoms) ≡ flat_map g (take i atoms) ++ g atom
 listed_more g atoms i atom within at = rw (first_more atoms i atom within at, flat_map-append g (take i atoms) (atom ∷ []), append-nil (g atom))
 

@@ -139,6 +139,7 @@ filter-flat_map p g (x ∷ xs) = filter-append p (g x) (flat_map g xs) ∙ ap (�
 
 pub is_counted : (back b : Bool) (its : PredKind) (o : Option PredKind) → o ≡ Some its → b ≡ is_backward its → not (beq b back) ≡ false → unwrap_or (option_map (is_as back) o) false ≡ true
 is_counted back b its o is backward same = grind arith
+
 pub kept_one : {Y : Type 0} (p : Y → Bool) (y : Y) (ys : List Y) → ys ≡ y ∷ [] → p y ≡ true → filter p ys ≡ y ∷ []
 kept_one p y ys one is = ap (filter p) one ∙ ap (λ (b : Bool). if b then y ∷ [] else []) is
 
@@ -187,6 +188,7 @@ next_again runs later last run end at some is =
 
 pub next_other : (runs later : List Run) (last : ℕ) (run : Run) → last + 1 ≡ length runs → run ≡ get_or runs last run → run.more ≡ 0 → later ≡ take last runs → pending runs ≡ run.level ∷ pending later
 next_other runs later last run end at none is = cc (at_last runs last run end at, pending_push (take last runs) run, none, is)
+
 le_lost : (level g : ℕ) → 512 < level → nat_le (max level g) 512 ≡ false
 le_lost level g h = grind (arith, nat_tests)
 

@@ -135,8 +135,10 @@ lines a b = grind arith
 
 chain_line : (one other next : Pos) → ¬ (StandsBefore other one) → ¬ (StandsBefore next other) → Lines other.line one.line → next.line < one.line → ⊥
 chain_line one other next no_ no' given less = grind arith
+
 chain_level : (one other next : Pos) → ¬ (StandsBefore other one) → ¬ (StandsBefore next other) → other.line ≡ one.line → Lines other.col one.col → next.line ≡ one.line → next.col < one.col → ⊥
 chain_level one other next no_ no' h given alike less = grind arith
+
 chain_col : (one other next : Pos) → ¬ (StandsBefore other one) → ¬ (StandsBefore next other) → Lines other.line one.line → next.line ≡ one.line → next.col < one.col → ⊥
 chain_col one other next no_ no' given alike less = grind (arith, chain_level, lines)
 
@@ -169,8 +171,10 @@ earlier_one pos next later xs ys one other = (
 
 pub one_alone : (answer : Option Pos) (xs ys : List Pos) → IsEarliest xs answer → ys ≡ [] → IsEarliest (xs ++ ys) answer
 one_alone answer xs ys one none = subst (λ zs. IsEarliest zs answer) (sym (ap (λ zs. xs ++ zs) none ∙ append-nil xs)) one
+
 pub other_alone : (answer : Option Pos) (xs ys : List Pos) → xs ≡ [] → IsEarliest ys answer → IsEarliest (xs ++ ys) answer
 other_alone answer xs ys none other = subst (λ zs. IsEarliest zs answer) (sym (ap (λ zs. zs ++ ys) none)) other
+
 pub single : (pos : Pos) → IsEarliest (pos ∷ []) (Some pos)
 single pos = grind (arith, contains_first, contains_none, contains_cases, pos.line)
 

@@ -128,6 +128,7 @@ at_most (x ∷ xs) (suc n) none = let rest = at_most xs n none in omega (arith, 
 
 filter_size_by : {X : Type 0} (b c : Bool) (x : X) (n m k : ℕ) → (b ≡ true) ⊎ (c ≡ true) → n ≤ m + k → suc n ≤ cond b (suc m) m + cond c (suc k) k
 filter_size_by b c x n m k some few = grind arith
+
 filter_size : {X : Type 0} (p : X → Bool) (x : X) (xs : List X) → length (filter p (x ∷ xs)) ≡ cond (p x) (suc (length (filter p xs))) (length (filter p xs))
 filter_size p x xs = grind arith
 
@@ -237,6 +238,7 @@ variable_word source is span at = run_word is_ascii_uppercase (said source span)
 
 some_run : (first next : ℕ → Bool) (word : List ℕ) → Runs first next word → 1 ≤ length word
 some_run first next word runs = grind arith
+
 one_byte : (word codes_ : List ℕ) → word ≡ codes_ → 1 ≤ length codes_ → 1 ≤ length word
 one_byte word codes_ same some = subst (λ w. 1 ≤ length w) (sym same) some
 
@@ -308,18 +310,25 @@ module _ (source : Source) (clean : IsClean source) (items : AllByRecursion (IsI
 
   named_stage : (item_ : RawItem) → IsItemOf clean.is_source.tokens item_ → AllByRecursion (λ span. IsName (said source span)) (declares item_).stages
   named_stage item_ is = grind (arith, name_at)
+
   named_pred : (item_ : RawItem) → IsItemOf clean.is_source.tokens item_ → AllByRecursion (λ (pred : PredItem). IsName (said source pred.name)) (declares item_).preds
   named_pred item_ is = grind (arith, name_at)
+
   con_by_label : (labelled : Bool) (con : ConItem) → IsName (said source con.name) → AllByRecursion (λ (con : ConItem). IsName (said source con.name)) (if not labelled then con ∷ [] else [])
   con_by_label labelled con is = grind arith
+
   named_con : (item_ : RawItem) → IsItemOf clean.is_source.tokens item_ → AllByRecursion (λ (con : ConItem). IsName (said source con.name)) (cons_in source item_)
   named_con item_ is = grind (arith, con_by_label, name_at)
+
   rules_made : (item_ : RawItem) → IsItemOf clean.is_source.tokens item_ → AllByRecursion (λ (rule : RuleItem). IsRuleOf clean.is_source.tokens rule.raw) (declares item_).rules
   rules_made item_ is = grind (arith, all_map)
+
   label_made : (rule : RuleItem) → Contains (rules_of source) rule → IsLabelOf clean.is_source.tokens rule.raw.label
   label_made rule there = (all_at (λ (one : RuleItem). IsRuleOf clean.is_source.tokens one.raw) (rules_of source) rule (all_flat (IsItemOf clean.is_source.tokens) (λ (one : RuleItem). IsRuleOf clean.is_source.tokens one.raw) (λ item_. (declares item_).rules) source.file rules_made items) there).label
+
   rule_name_is : (unlabelled : ℕ) (label : Option Span) → unlabelled + 1 < 2 ^ 63 → IsLabelOf clean.is_source.tokens label → IsName (rule_name source unlabelled label)
   rule_name_is unlabelled label few is = grind (arith, name_at, qui_name)
+
   more_rules : (unlabelled size : ℕ) (label : Option Span) → unlabelled + suc size < 2 ^ 62 → unlabelled_behind unlabelled label + size < 2 ^ 62
   more_rules unlabelled size label few = grind arith
 
@@ -395,12 +404,16 @@ needed_here source rule raw there inside = contains_left (needed_atoms source) _
 
 pub made_there : (source : Source) (rule : RuleItem) (raw : RawAtom) → Contains (rules_of source) rule → Contains (atoms_of rule.raw.right) raw → Contains (made_atoms source) raw
 made_there source rule raw there inside = contains_flat (λ (one : RuleItem). atoms_of one.raw.right) (rules_of source) rule raw there inside
+
 pub made_here : (source : Source) (raw : RawAtom) → Contains (made_atoms source) raw → Contains (atoms_written source) raw
 made_here source raw there = contains_right (needed_atoms source) _ raw (contains_left (made_atoms source) _ raw there)
+
 pub clause_there : (source : Source) (clause : ClauseItem) (raw : RawAtom) → Contains (clauses_of source) clause → Contains (clause.head ∷ clause.goals) raw → Contains (clause_atoms source) raw
 clause_there source clause raw there inside = contains_flat (λ (one : ClauseItem). one.head ∷ one.goals) (clauses_of source) clause raw there inside
+
 pub clause_atom_here : (source : Source) (raw : RawAtom) → Contains (clause_atoms source) raw → Contains (atoms_written source) raw
 clause_atom_here source raw there = contains_right (needed_atoms source) _ raw (contains_right (made_atoms source) _ raw (contains_left (clause_atoms source) _ raw there))
+
 pub state_atom_here : (source : Source) (raw : RawAtom) → Contains (state_atoms source) raw → Contains (atoms_written source) raw
 state_atom_here source raw there = contains_right (needed_atoms source) _ raw (contains_right (made_atoms source) _ raw (contains_right (clause_atoms source) (state_atoms source) raw there))
 
@@ -542,8 +555,10 @@ pub data IsFirstIn (source : Source) (blanks : ℕ) (wanted : List Wanted) (site
 
 not_same : (xs ys : List ℕ) → (xs ≡ ys → ⊥) → bytes_eq xs ys ≡ false
 not_same xs ys differ = grind (arith, same_bytes)
+
 find_behind : (v w : Wanted) (rest : List Wanted) → bytes_eq v.name w.name ≡ false → find (λ (x : Wanted). bytes_eq x.name w.name) rest ≡ Some w → find (λ (x : Wanted). bytes_eq x.name w.name) (v ∷ rest) ≡ Some w
 find_behind v w rest differ found = ap (λ b. cond b (Some v) (find (λ (x : Wanted). bytes_eq x.name w.name) rest)) differ ∙ found
+
 find_here : (w : Wanted) (rest : List Wanted) → find (λ (x : Wanted). bytes_eq x.name w.name) (w ∷ rest) ≡ Some w
 find_here w rest = ap (λ b. cond b (Some w) (find (λ (x : Wanted). bytes_eq x.name w.name) rest)) (bytes_same w.name)
 
@@ -622,6 +637,7 @@ position_there p xs within = grind (arith, place_is, lt-ltb)
 
 or_rest : (one other : Bool) → one ≡ false → (one || other) ≡ true → other ≡ true
 or_rest one other e any = grind arith
+
 within_by : (b : Bool) (n m : ℕ) → (b ≡ false → n < m) → cond b 0 (1 + n) < suc m
 within_by b n m later = grind arith
 
@@ -704,6 +720,7 @@ module _ (source : Source) (clean : IsClean source) where
 
   even_group : (k : ℕ) → (2 * k) % 2 ≡ 0
   even_group k = let e : 2 * k + 0 ≡ 2 * k = omega arith in ap (λ n. n % 2) (sym e) ∙ mul-add-mod_self_left 2 k 0
+
   odd_group : (k : ℕ) → (2 * k + 1) % 2 ≡ 1
   odd_group k = mul-add-mod_self_left 2 k 1
 
@@ -713,5 +730,6 @@ module _ (source : Source) (clean : IsClean source) where
 
   pub rule_grouped : (item_ : RuleItem) (rule : Rule) → Contains (rules_of source) item_ → IsRuleBy source item_ rule → IsGroupedRule (length (stages_of source)) rule
   rule_grouped item_ rule there by = grind (arith, grouped_by, item_.home, by.group_is, rule.next, item_.raw.left, by.next_is)
+
   pub rule_next : (item_ : RuleItem) (rule : Rule) → Contains (rules_of source) item_ → IsRuleBy source item_ rule → IfSome rule.next (λ stage. stage < length (stages_of source))
   rule_next item_ rule there by = subst (λ next. IfSome next (λ stage. stage < length (stages_of source))) (sym by.next_is) (grouped_by item_.home item_ there refl).2

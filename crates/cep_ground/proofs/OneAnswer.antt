@@ -108,6 +108,7 @@ mutual
 
 same_atom : (a b : AtomTree) → a.pred ≡ b.pred → a.args ≡ b.args → a ≡ b
 same_atom a b pred args = λ i. record { pred = pred i; args = args i }
+
 pub atom_once : (source : Source) (vars : List (List ℕ)) (blanks : ℕ) (raw : RawAtom) (a b : AtomTree) → IsAtomBy source vars blanks raw a → IsAtomBy source vars blanks raw b → a ≡ b
 atom_once source vars blanks raw a b one other = grind (arith, terms_once a.args b.args [] [] (one.count ∙ sym other.count) (append-nil (heads_among a.args) ∙ one.heads ∙ sym other.heads ∙ sym (append-nil (heads_among b.args))))
 
@@ -165,8 +166,10 @@ clauses_once source items xs ys one other = grind arith
 
 same_trace : (t u : TraceItem) (ts us : List TraceItem) → t ∷ ts ≡ u ∷ us → t ≡ u
 same_trace t u ts us e = cc
+
 start_once : (source : Source) (t u : TraceItem) (x y : Multiset) → t ≡ u → IsStartBy source t x → IsStartBy source u y → x ≡ y
 start_once source t u x y same one other = let one' : IsStartBy source u x = subst (λ v. IsStartBy source v x) same one in rw (one'.start_is, atoms_once source [] 0 _ one'.atoms other.atoms one'.atoms_are other.atoms_are, ← other.start_is)
+
 same_parts : (p q : Parts) → p.signature ≡ q.signature → p.stages ≡ q.stages → p.rules ≡ q.rules → p.clauses ≡ q.clauses → p.start_stage ≡ q.start_stage → p.start ≡ q.start → p.turns ≡ q.turns → p ≡ q
 same_parts p q signature stages rules clauses start_stage start turns = λ i. record { signature = signature i; stages = stages i; rules = rules i; clauses = clauses i; start_stage = start_stage i; start = start i; turns = turns i }
 
@@ -267,6 +270,7 @@ numbered n =
 
 by_number : (reason : Reason) → numbered (number reason) ≡ reason
 by_number reason = grind arith
+
 number_within : (reason : Reason) → number reason ≤ 19
 number_within reason = grind arith
 

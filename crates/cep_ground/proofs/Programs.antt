@@ -235,6 +235,7 @@ flat_few f (x ∷ xs) one = grind (arith, length-append, flat_few f xs one)
 
 one_sort : (item_ : RawItem) → length (declares item_).sorts ≤ 1
 one_sort item_ = grind arith
+
 one_stage : (item_ : RawItem) → length (declares item_).stages ≤ 1
 one_stage item_ = grind arith
 

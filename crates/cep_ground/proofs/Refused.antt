@@ -356,6 +356,7 @@ told_itself fault other same = subst (IsToldFirst fault) same (inr (refl, inr (r
 
 same_wrong : (reason : Reason) (one other : ℕ) (fault : Fault) → one ≡ other → fault ≡ wrong reason other → wrong reason one ≡ fault
 same_wrong reason one other fault same is = ap (wrong reason) same ∙ sym is
+
 pub refused_too_long : (text : List ℕ) → MOST_TEXT < length text → IsRefusedFor text (wrong TooLong 0)
 refused_too_long text long = grind (arith, told_itself)
 
@@ -366,10 +367,13 @@ module _ (lexed : LexedOnce) (text : List ℕ) where
 
   no_source : (fault : LexFault) (source : Source) → IsLexed text (Err fault) → source.text ≡ text → IsSource source → ⊥
   no_source fault source is text_is is_source = no_fault is_source.tokens fault (subst (λ t. AreTokens t is_source.tokens) text_is is_source.lexed) is
+
   one_bad_byte : (at at' : ℕ) → IsBadByte text at → IsBadByte text at' → at ≡ at'
   one_bad_byte at at' is is' = let e = lexed text (Err (lex.BadByte at)) (Err (lex.BadByte at')) is is' in cc
+
   one_name_long : (at at' : ℕ) → IsNameLong text at → IsNameLong text at' → at ≡ at'
   one_name_long at at' is is' = let e = lexed text (Err (lex.NameLong at)) (Err (lex.NameLong at')) is is' in cc
+
   not_both : (at at' : ℕ) → IsBadByte text at → IsNameLong text at' → ⊥
   not_both at at' is is' = let e = lexed text (Err (lex.BadByte at)) (Err (lex.NameLong at')) is is' in absurd cc
 
@@ -420,6 +424,7 @@ module _ (lexed : LexedOnce) (text : List ℕ) where
 
     one_nested : (tokens tokens' : List Token) (at at' : ℕ) → AreTokens text tokens → AreTokens text tokens' → IsNested (symbols_of text tokens) at → IsNested (symbols_of text tokens') at' → at ≡ at'
     one_nested tokens tokens' at at' are are' is is' = grind (arith, parsed text tokens (Err (parse.Nested at)) (Err (parse.Nested at')) is (subst (λ ts. IsNested (symbols_of text ts) at') (tokens_same tokens' tokens are' are) is'))
+
     not_both_parse : (tokens tokens' : List Token) (at at' : ℕ) → AreTokens text tokens → AreTokens text tokens' → IsUnexpected (symbols_of text tokens) (length text) at → IsNested (symbols_of text tokens') at' → ⊥
     not_both_parse tokens tokens' at at' are are' is is' = grind (arith, parsed text tokens (Err (parse.Unexpected at)) (Err (parse.Nested at')) is (subst (λ ts. IsNested (symbols_of text ts) at') (tokens_same tokens' tokens are' are) is'))
 
@@ -457,8 +462,10 @@ module _ (lexed : LexedOnce) (text : List ℕ) where
 
       same_source : (other : Source) → other.text ≡ text → IsSource other → other ≡ source
       same_source other other_is is = source_once lexed file_once other source (other_is ∙ sym text_is) is is_source
+
       no_unexpected : (tokens : List Token) (at : ℕ) → AreTokens text tokens → IsUnexpected (symbols_of text tokens) (length text) at → ⊥
       no_unexpected tokens at are is = no_parse_fault tokens (parse.Unexpected at) source are is text_is is_source
+
       no_nested : (tokens : List Token) (at : ℕ) → AreTokens text tokens → IsNested (symbols_of text tokens) at → ⊥
       no_nested tokens at are is = no_parse_fault tokens (parse.Nested at) source are is text_is is_source
 
@@ -581,5 +588,6 @@ module _ (lexed : LexedOnce) (parsed : ParsedOnce) (file_once : FileOnce) (sourc
 
 pub yes_of : (b : Bool) (P : Type 0) → (IsTrue b ↔ P) → b ≡ true → P
 yes_of b P both is = both.0 is
+
 pub no_of : (b : Bool) (P : Type 0) → (IsTrue b ↔ P) → b ≡ false → ¬ P
 no_of b P both is holds = let yes_ : b ≡ true = both.1 holds in absurd cc

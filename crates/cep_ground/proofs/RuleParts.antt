@@ -108,8 +108,10 @@ module _ (source : Source) (clean : IsClean source) (made : AtomsMade source) wh
 
   pub right_at : (rule : RuleItem) → Contains (rules_of source) rule → (raw : RawAtom) → Contains (atoms_of rule.raw.right) raw → Contains (made_atoms source) raw
   right_at rule there raw inside = made_there source rule raw there inside
+
   pub right_here : (rule : RuleItem) → Contains (rules_of source) rule → (raw : RawAtom) → Contains (atoms_of rule.raw.right) raw → IsHere source raw
   right_here rule there raw inside = here_at raw (made_here source raw (right_at rule there raw inside))
+
   either_kind : (its : PredKind) → (may_be_state (Some its) ≡ true) ⊎ (may_be_backward (Some its) ≡ true)
   either_kind its = grind arith
 
@@ -119,10 +121,13 @@ module _ (source : Source) (clean : IsClean source) (made : AtomsMade source) wh
 
   pub linear_few : (rule : RuleItem) → Contains (rules_of source) rule → length (state_premises_of source rule.raw) ≤ 16
   linear_few rule there = at_most (state_premises_of source rule.raw) 16 (λ atom found. clean.names (wrong OverLimit atom.name.from) (over atom.name.from (premise rule atom there found refl) refl))
+
   pub back_few : (rule : RuleItem) → Contains (rules_of source) rule → length (backward_of source rule.raw) ≤ 8
   back_few rule there = at_most (backward_of source rule.raw) 8 (λ atom found. clean.names (wrong OverLimit atom.name.from) (over atom.name.from (back rule atom there found refl) refl))
+
   pub right_few : (rule : RuleItem) → Contains (rules_of source) rule → length (atoms_of rule.raw.right) ≤ 32
   right_few rule there = at_most (atoms_of rule.raw.right) 32 (λ atom found. clean.names (wrong OverLimit atom.name.from) (over atom.name.from (right rule atom there found refl) refl))
+
   pub goals_few : (clause : ClauseItem) → Contains (clauses_of source) clause → length clause.goals ≤ 8
   goals_few clause there = at_most clause.goals 8 (λ atom found. clean.names (wrong OverLimit atom.name.from) (over atom.name.from (goal clause atom there found refl) refl))
 
@@ -167,12 +172,16 @@ module _ (source : Source) (clean : IsClean source) (made : AtomsMade source) wh
 
   con_arg_known : (con : ConItem) (span : Span) → Contains (cons_of source) con → Contains con.args span → is_in source space.Sorts (said source span) ≡ true
   con_arg_known con span there inside = con_type_known con span there (contains_left con.args _ span inside)
+
   pub con_sort_known : (con : ConItem) → Contains (cons_of source) con → is_in source space.Sorts (said source con.sort) ≡ true
   con_sort_known con there = con_type_known con con.sort there (contains_right con.args _ con.sort (contains_first con.sort []))
+
   pred_arg_known : (pred : PredItem) (span : Span) → Contains (preds_of source) pred → Contains pred.args span → is_in source space.Sorts (said source span) ≡ true
   pred_arg_known pred span there inside = rw (known source space.Sorts span clean.names (contains_left (flat_map (λ (one : PredItem). one.args) (preds_of source)) _ span (contains_flat (λ (one : PredItem). one.args) (preds_of source) pred span there inside)))
+
   pub con_args_known : (con : ConItem) → Contains (cons_of source) con → AllByRecursion (λ name. is_in source space.Sorts name ≡ true) (map (said source) con.args)
   con_args_known con there = all_map (λ name. is_in source space.Sorts name ≡ true) (said source) con.args (all_of (λ span. is_in source space.Sorts (said source span) ≡ true) con.args (λ span inside. con_arg_known con span there inside))
+
   pub pred_args_known : (pred : PredItem) → Contains (preds_of source) pred → AllByRecursion (λ name. is_in source space.Sorts name ≡ true) (map (said source) pred.args)
   pred_args_known pred there = all_map (λ name. is_in source space.Sorts name ≡ true) (said source) pred.args (all_of (λ span. is_in source space.Sorts (said source span) ≡ true) pred.args (λ span inside. pred_arg_known pred span there inside))
 
@@ -182,10 +191,13 @@ module _ (source : Source) (clean : IsClean source) (made : AtomsMade source) wh
 
   con_types_known : (found : Option ConItem) (name : List ℕ) → con_named source name ≡ found → AreTypes (map (said source) (unwrap_or (option_map (λ (con : ConItem). con.args) found) []))
   con_types_known found name is = grind (arith, con_args_known, found_in)
+
   node_types_known : (shape : RawKind) (at : Span) → AreTypes (node_types source shape at)
   node_types_known shape at = grind (arith, con_types_known)
+
   pred_types_by : (found : Option PredItem) (name : List ℕ) → pred_named source name ≡ found → AreTypes (map (said source) (unwrap_or (option_map (λ (pred : PredItem). pred.args) found) []))
   pred_types_by found name is = grind (arith, pred_args_known, found_in)
+
   pred_types_known : (name : List ℕ) → AreTypes (pred_types source name)
   pred_types_known name = pred_types_by (pred_named source name) name refl
 
@@ -234,6 +246,7 @@ module _ (source : Source) (clean : IsClean source) (made : AtomsMade source) wh
 
   name_at : (blanks : ℕ) (shape : RawKind) (at : Span) (o : Occurrence) → blanks < 2 ^ 63 → IsWrittenAt clean.is_source.tokens shape at → Contains (occurrence_at source blanks at shape) o → IsVariableName o.name
   name_at blanks shape at o few node there = grind (arith, contains_none, variable_is, contains_cases, blank_name)
+
   fewer : (blanks size : ℕ) (shape : RawKind) → blanks + suc size < 2 ^ 63 → blanks_behind blanks shape + size < 2 ^ 63
   fewer blanks size shape few = grind arith
 
@@ -451,6 +464,7 @@ module _ (source : Source) (clean : IsClean source) (atoms_made : AtomsMade sour
 
   of_state : (atom : AtomTree) (j : IsJudged atom) → is_back source atom ≡ false → HasStatePredicate (signature_of source) atom
   of_state atom j linear = grind (arith, j.of_pred)
+
   backward_is : (atom : AtomTree) (j : IsJudged atom) → is_back source atom ≡ true → IsBackward (signature_of source) atom
   backward_is atom j yes_ = grind (arith, j.of_pred)
 

@@ -46,6 +46,7 @@ module _ (source : Source) (vars : List (List ℕ)) where
 
   con_args : (blanks c count : ℕ) (shape : RawKind) (at : Span) (args : ℕ) → con c count ≡ head_at source vars blanks shape at args → count ≡ args
   con_args blanks c count shape at args e = grind arith
+
   no_var : (blanks v : ℕ) (shape : RawKind) (at : Span) (args : ℕ) → shape ≡ kind.App → var v ≡ head_at source vars blanks shape at args → ⊥
   no_var blanks v shape at args is e = absurd cc
 
@@ -157,6 +158,7 @@ module _ (source : Source) (vars : List (List ℕ)) (kinds : List ℕ) (cons : L
 
   con_at : (kind : RawKind) (at : Span) (args c count blanks : ℕ) → con c count ≡ head_at source vars blanks kind at args → IsConAt c count kind at args
   con_at kind at args c count blanks e = grind arith
+
   con_typed : (c : ℕ) (args : Trees) (wants : List ℕ) (at : Span) (count : ℕ) (good : IsGoodCon wants at count) → c ≡ number_of source space.Constructors (said source at) → HaveSorts cons kinds good.con.args args → HasSort cons kinds (type_number wants) (node c args)
   con_typed c args wants at count good number typed = grind (arith, good.found, good.sort)
 

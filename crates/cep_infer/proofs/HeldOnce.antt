@@ -63,6 +63,7 @@ module _ (laws : BagLaws) (test : AtomTree → Bool) where
 
     more_kept : IsBag more
     more_kept = laws.set_kept bag a (count_of bag a + 1) ground kept
+
     other : (x : AtomTree) (o : Ordering) → atom_cmp x a ≡ o → o ≢ Equal → count_of more x ≡ count_of bag x
     other x o is unequal = laws.others bag a x (count_of bag a + 1) (differs laws x a o is unequal)
 
@@ -106,11 +107,15 @@ module _ (laws : BagLaws) (test : AtomTree → Bool) where
 
     front_kept : IsBag front
     front_kept = laws.gathered_kept (take k atoms) (all_taken IsGroundAtom atoms k all)
+
     ground : IsGroundAtom a
     ground = all_at IsGroundAtom atoms a all (k, within, at)
+
     taken : gathered (take (k + 1) atoms) ≡ with_one front a
     taken = rw (take_more atoms k a within, at, same_gathered laws (a ∷ take k atoms) (take k atoms ++ a ∷ []) (IsPermutation-sym _ _ (IsPermutation-to_front (take k atoms) a)) (ground, all_taken IsGroundAtom atoms k all))
+
     pub passed_over : (test a && nat_lt 0 (count_of old a)) ≡ true → old ≡ once test (gathered (take (k + 1) atoms))
     passed_over there = was ∙ sym (again front a ground front_kept (ap (λ bag. test a && nat_lt 0 (count_of bag a)) (sym was) ∙ there)) ∙ ap (once test) (sym taken)
+
     pub added : (new : Multiset) → (test a && nat_lt 0 (count_of old a)) ≡ false → new ≡ with_one old a → new ≡ once test (gathered (take (k + 1) atoms))
     added new none is = is ∙ ap (λ bag. with_one bag a) was ∙ sym (first front a ground front_kept (ap (λ bag. test a && nat_lt 0 (count_of bag a)) (sym was) ∙ none)) ∙ ap (once test) (sym taken)

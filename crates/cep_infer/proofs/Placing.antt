@@ -14,6 +14,7 @@ use Rattle.cep_infer.specs.Places.{IsReached, ArePlaces, ArePlaceLists}
 
 pub front_is_reached : (text : List ℕ) → IsReached text (record { at = 0; pos = record { line = 1; col = 1 } })
 front_is_reached text = grind arith
+
 joined : (text : List ℕ) (i j : ℕ) → i ≤ j → take i text ++ slice_range text i j ≡ take j text
 joined text i j h = grind (arith, between_is text i j, take-take i j text h, take-append-drop i (take j text))
 
@@ -24,6 +25,7 @@ pub record IsStart (text : List ℕ) (start : Reached) (to : ℕ) : Type 0 where
 
 abbrev front : Reached
 front = record { at = 0; pos = record { line = 1; col = 1 } }
+
 pub start_is : (text : List ℕ) (from start : Reached) (to : ℕ) → IsReached text from → ((start ≡ from) × (from.at ≤ to)) ⊎ (start ≡ front) → IsStart text start to
 start_is text from start to reached given = grind (arith, front_is_reached text)
 
@@ -34,6 +36,7 @@ reached_is text start at to pos is h from further = grind (arith, min-le_right, 
 
 pub place_there : (text : List ℕ) (at to : ℕ) (pos : Pos) → to ≡ min at (length text) → IsReached text (record { at = to; pos = pos }) → IsPlaceAfter (take at text) pos
 place_there text at to pos is reached = subst (λ (bytes : List ℕ). IsPlaceAfter bytes pos) (ap (λ n. take n text) is ∙ take_min at text) reached.place
+
 range_short : (text : List ℕ) (from to : ℕ) → length (slice_range text from to) ≤ length text
 range_short text from to = grind (arith, between_is, length-drop, length-take)
 

@@ -78,6 +78,7 @@ new_names seen (name ∷ names) = if has seen name then new_names seen names els
 
 abbrev occurring : List Occurrence → List (List ℕ)
 occurring occurrences = map (λ (o : Occurrence). o.name) occurrences
+
 abbrev wanted_names_of : List Wanted → List (List ℕ)
 wanted_names_of ws = map (λ (w : Wanted). w.name) ws
 
@@ -169,6 +170,7 @@ module _ (source : Source) (atoms : List RawAtom) (variables : Variables) (met :
 
   abbrev kind_of : Option (List ℕ) → ℕ
   kind_of type = number_of source space.Sorts (unwrap_or type [])
+
   abbrev kind_found : Option Wanted → ℕ
   kind_found o = kind_of (option_map (λ (w : Wanted). w.wants) o)
 
@@ -197,6 +199,7 @@ module _ (source : Source) (vars : List (List ℕ)) where
 
   pub none_built : (blanks : ℕ) (old : List AtomTree) → AreBuilt source vars [] blanks blanks old old
   none_built blanks old = record { more = []; new_is = sym (append-nil old); are = tt; behind_is = refl }
+
   pub all_built : (raws : List RawAtom) (before behind : ℕ) (none atoms : List AtomTree) → none ≡ [] → AreBuilt source vars raws before behind none atoms → AreAtomsBy source vars before raws atoms
   all_built raws before behind none atoms none_is built = subst (λ (ts : List AtomTree). AreAtomsBy source vars before raws ts) (sym (built.new_is ∙ ap (λ ts. ts ++ built.more) none_is)) built.are
 
@@ -409,6 +412,7 @@ module _ (source : Source) where
 
   pub atom_closed : IsWellNamed source → (raw : RawAtom) → Contains (state_atoms source) raw → AreClosed raw.nodes
   atom_closed named raw there = all_of (λ (n : RawNode). n.kind ≡ kind.App) raw.nodes (λ n inside. closed_by named n (contains_flat (λ (atom : RawAtom). atom.nodes) (state_atoms source) raw n there inside) n.kind refl)
+
   pub start_ground : (trace : TraceItem) (atoms : List AtomTree) → IsWellNamed source → Contains (traces_of source) trace → AreAtomsBy source [] 0 (start_atoms source trace.start) atoms → AllByRecursion IsGroundAtom atoms
   start_ground trace atoms named there by = atoms_ground source [] 0 (start_atoms source trace.start) atoms (λ raw listed. atom_closed named raw (state_written trace raw there listed)) by
 
@@ -514,6 +518,7 @@ module _ (source : Source) where
 
   abbrev fresh : List (List ℕ × Span) → Occurrence → Bool
   fresh firsts occurrence = not (has_name firsts occurrence.name)
+
   abbrev unnamed : List RawAtom → Occurrence → Bool
   unnamed atoms occurrence = not (list_any (λ name. bytes_eq name occurrence.name) (names_of source atoms))
 
@@ -523,8 +528,10 @@ module _ (source : Source) where
 
   names_are : (atoms : List RawAtom) (left : Variables) → AreVariables source atoms left → names_among left.firsts ≡ names_of source atoms
   names_are atoms left are = grind (arith, map-map)
+
   fresh_is : (atoms : List RawAtom) (left : Variables) → AreVariables source atoms left → (occurrence : Occurrence) → fresh left.firsts occurrence ≡ unnamed atoms occurrence
   fresh_is atoms left are occurrence = ap not (has_names left.firsts occurrence.name ∙ ap (λ (names : List (List ℕ)). list_any (λ name. bytes_eq name occurrence.name) names) (names_are atoms left are))
+
   unbound_met : (atoms : List RawAtom) (right : List RawNode) (left : Variables) → AreVariables source atoms left → places_of (fresh left.firsts) (occurrences_from source left.blanks right) ≡ places_of (unnamed atoms) (occurrences_from source (blanks_after 0 (raw_nodes atoms)) right)
   unbound_met atoms right left are = grind (arith, places_of, fresh, filter_agree, unnamed, fresh_is)
 
@@ -578,8 +585,10 @@ module _ (tokens : List Token) where
 
   clause_made : (source : Source) (item_ : RawItem) → IsItemOf tokens item_ → AllByRecursion IsClauseMade (clauses_in source item_)
   clause_made source item_ is = grind (arith, labelled_made)
+
   context_made : (item_ : RawItem) → IsItemOf tokens item_ → AllByRecursion IsContextMade (declares item_).contexts
   context_made item_ is = grind arith
+
   trace_made : (item_ : RawItem) → IsItemOf tokens item_ → AllByRecursion IsTraceMade (declares item_).traces
   trace_made item_ is = grind (arith, start_all)
 

@@ -25,6 +25,7 @@ place_start = record { lines = []; bytes = []; cut = refl; ended = inl refl; unb
 
 pub no_bytes : (earlier : List ℕ) (pos : Pos) → IsPlaceAfter earlier pos → IsPlaceAfter (earlier ++ []) pos
 no_bytes earlier pos place = rw (append-nil earlier) place
+
 abbrev breaks : List ℕ → ℕ
 breaks bytes = count_by (λ byte. byte == 10) bytes
 
@@ -41,6 +42,7 @@ module _ (earlier bytes : List ℕ) (i : ℕ) where
 
   pub place_break : (pos : Pos) → i < length bytes → get_or bytes i 0 ≡ 10 → IsPlaceAfter (earlier ++ take i bytes) pos → IsPlaceAfter (earlier ++ take (i + 1) bytes) (record { line = pos.line + 1; col = 1 })
   place_break pos within is place = on _ within (after_break (earlier ++ take i bytes) _ pos is place)
+
   pub place_more : (pos : Pos) → i < length bytes → get_or bytes i 0 ≢ 10 → IsPlaceAfter (earlier ++ take i bytes) pos → IsPlaceAfter (earlier ++ take (i + 1) bytes) (record { line = pos.line; col = pos.col + 1 })
   place_more pos within is place = on _ within (after_more (earlier ++ take i bytes) _ pos is place)
 

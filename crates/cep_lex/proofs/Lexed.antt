@@ -215,6 +215,7 @@ told_if told other byte n is rest = grind (arith, eqb-true)
 
 mark_told : (byte : ℕ) → BeginsWith (mark_class byte) byte
 mark_told byte = grind (arith, told_if)
+
 class_told : (byte : ℕ) → BeginsWith (class byte) byte
 class_told byte = grind (arith, mark_told byte)
 
@@ -271,6 +272,7 @@ front_of bytes some = by (class (get_or bytes 0 0)) refl (class_told (get_or byt
 
 is_number : (kind : TokenKind) → (kind ≡ Number) ⊎ (kind ≢ Number)
 is_number kind = grind arith
+
 short_or_long : (kind : TokenKind) (size : ℕ) → IsShortLength kind size ⊎ IsLongLength kind size
 short_or_long kind size = ⊎_elim (λ number. inl (inl number)) (λ other. ⊎_elim (λ long. inr (other, long)) (λ short. inl (inr short)) (cases_lt MOST_NAME size)) (is_number kind)
 

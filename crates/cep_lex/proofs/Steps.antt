@@ -19,7 +19,7 @@ cut_more at bytes (first ∷ tokens) rest from token behind cut place starts = g
 
 -- the token at the front of what stands after a gap
 pub split_front : (bytes : List ℕ) (gap : ℕ) (kind : TokenKind) (size : ℕ) (before : IsGapBefore bytes gap) → IsFront (drop gap bytes) kind size → Splits bytes before.gap kind (take size (drop gap bytes)) (drop size (drop gap bytes))
-split_front bytes gap kind size before front = record { cut = before.cut ∙ ap (λ b. before.gap ++ b) (sym before.next ∙ sym (take-append-drop size (drop gap bytes))); apart = before.apart; spelled = front.spelled; longest = front.longest; }
+split_front bytes gap kind size before front = record { cut = before.cut ∙ ap (λ b. before.gap ++ b) (sym before.next ∙ sym (take-append-drop size (drop gap bytes))); apart = before.apart; spelled = front.spelled; longest = front.longest }
 
 -- a word of a short length is short
 short_text : (kind : TokenKind) (size : ℕ) (word : List ℕ) → length word ≡ size → IsShortLength kind size → IsShort kind word

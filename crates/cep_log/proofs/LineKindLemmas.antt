@@ -87,7 +87,6 @@ pub record OneValue (program : Parts) : Type 0 where
   pub stages : AllDiffer (map (λ stage. stage.name) program.stages)
 
 module _ (program : Parts) (laws : OneValue program) where
-
   one_stage : (line : List ℕ) (i j : ℕ) → IsStageLine program line i → IsStageLine program line j → i ≡ j
   one_stage line i j a b = grind (arith, number_named, stage_there program.stages i a.in_range, stage_there program.stages j b.in_range, program.stages, a.written, b.written, laws.stages, a.in_range, b.in_range)
 

@@ -166,7 +166,6 @@ listings_too version number steps others same have = grind arith
 -- Steps
 
 module _ (program : Parts) where
-
   steps_of_too : (steps others : List LogStep) → AllZip SayTheSame steps others → AllByRecursion (IsStepOf program) steps → AllByRecursion (IsStepOf program) others
   steps_of_too (step ∷ steps) (other ∷ others) same of = (grind arith, steps_of_too steps others same.1 of.1)
   steps_of_too steps others same of = grind arith

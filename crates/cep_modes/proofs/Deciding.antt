@@ -108,6 +108,7 @@ record Sees (size : ℕ) (numbers : List ℕ) (seen after : List Bool) (queue lo
 
 sees_none : (size : ℕ) (seen : List Bool) (queue : List ℕ) → Sees size [] seen seen queue queue
 sees_none size seen queue = grind (arith, contains_none, append-nil)
+
 sees_old : (size n : ℕ) (seen : List Bool) (queue : List ℕ) → n < length seen → holds seen n ≡ true → Sees size (n ∷ []) seen (slice_set seen n true) queue queue
 sees_old size n seen queue low h = grind (arith, set_again, length-set, set_kept, set_here, contains_none, contains_cases, set_or, append-nil)
 

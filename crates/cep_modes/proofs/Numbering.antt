@@ -73,6 +73,7 @@ nothing_at (suc i) = nothing_at i
 
 odd : (n : ℕ) (b : Bool) → ((2 * n + cond b 1 0) % 2 == 1) ≡ b
 odd n b = grind arith
+
 half : (n : ℕ) (b : Bool) → (2 * n + cond b 1 0) / 2 ≡ n
 half n b = grind arith
 
@@ -86,10 +87,13 @@ positions_told known args = λ j i. told_at known args i j
 
 first_part : (pred n : ℕ) → n < 256 → (pred * 256 + n) / 256 ≡ pred
 first_part pred n low = omega arith
+
 second_part : (pred n : ℕ) → n < 256 → (pred * 256 + n) % 256 ≡ n
 second_part pred n low = omega arith
+
 pub place_low : (preds : ℕ) (known : Known) (goal : AtomTree) → IsPlain 32 goal → goal.pred < preds → pair_place known goal < preds * 256 + 1
 place_low preds known goal plain low = let few : set_number known goal.args < room goal.args = number_low known goal.args in omega (arith, plain.few)
+
 number_small : (known : Known) (goal : AtomTree) → IsPlain 32 goal → set_number known goal.args < 256
 number_small known goal plain = let few : set_number known goal.args < room goal.args = number_low known goal.args in omega (arith, plain.few)
 

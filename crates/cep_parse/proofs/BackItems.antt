@@ -816,6 +816,7 @@ stage_word_back place w x rest i h = grind arith
 
 stage_outer : (place : ℕ) (a : Span) (w : Word) (x : Span) (rest : List Symbol) (i : RawItem) → LeftRest Stars None place None (elem.Stage a ∷ []) (at w x ∷ rest) i → (s : Span) → s.from ≡ place → Item (at word.Stage s ∷ at word.Name a ∷ at w x ∷ rest) i
 stage_outer place a w x rest i up s is = outer_item [] None no_label place (at word.Stage s ∷ at word.Name a ∷ at w x ∷ rest) i (sym is) (elem_back_left None (at word.Stage s ∷ at word.Name a ∷ []) (elem.Stage a ∷ []) (elem_stage false s a) place None [] (at w x ∷ rest) i up)
+
 stage_named_back : (place : ℕ) (a : Span) (w : Word) (x : Span) (rest : List Symbol) (i : RawItem) → NextRest (stage_begun place a w) rest i → (s : Span) → s.from ≡ place → Item (at word.Stage s ∷ at word.Name a ∷ at w x ∷ rest) i
 stage_named_back place a w x rest i h s is = grind (arith, stage_outer, behind_left_back)
 

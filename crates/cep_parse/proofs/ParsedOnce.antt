@@ -449,6 +449,7 @@ too_deep symbols front rest shallow cut deep = let most = shallow front rest cut
 
 nested_or_not : (symbols : List Symbol) (size place place' : ℕ) → IsUnexpected symbols size place → IsNested symbols place' → ⊥
 nested_or_not symbols size place place' given nested = grind (arith, compare, never_begins, too_deep, with_next)
+
 nested_once : (symbols : List Symbol) (place place' : ℕ) → IsNested symbols place → IsNested symbols place' → place ≡ place'
 nested_once symbols place place' one other = grind (arith, compare, too_deep, with_next)
 

@@ -47,80 +47,118 @@ before_elem_within right stage place label left w x = grind arith
 
 rule_ended_within : (stage : Option StageSoFar) (r : RawRule) → is_between (rule_ended stage r) ≡ false
 rule_ended_within stage r = grind arith
+
 behind_left_within : (r : RuleSoFar) (w : Word) → is_between (behind_left r w) ≡ false
 behind_left_within r w = grind arith
+
 behind_right_within : (r : RuleSoFar) (right : List RawElem) (w : Word) → is_between (behind_right r right w) ≡ false
 behind_right_within r right w = grind (arith, rule_ended_within)
+
 behind_in_within : (right : Option (List RawElem)) (r : RuleSoFar) (w : Word) → is_between (behind_in right r w) ≡ false
 behind_in_within right r w = grind (arith, behind_left_within, behind_right_within)
+
 dollar_within : (r : RuleSoFar) (w : Word) (x : Span) → is_between (behind_dollar r w x) ≡ false
 dollar_within r w x = grind arith
+
 open_within : (r : RuleSoFar) (w : Word) → is_between (behind_open r w) ≡ false
 open_within r w = grind arith
+
 stage_within : (r : RuleSoFar) (w : Word) (x : Span) → is_between (behind_stage r w x) ≡ false
 stage_within r w x = grind arith
+
 rule_within : (r : RuleSoFar) (place : RulePlace) (w : Word) (x : Span) → is_between (step_rule r place w x) ≡ false
 rule_within r place w x = grind (arith, before_elem_within, dollar_within, open_within, stage_within, behind_in_within)
+
 bag_ended_within : (home_ : BagHome) (atoms : List RawAtom) → is_between (bag_ended home_ atoms) ≡ false
 bag_ended_within home_ atoms = grind arith
+
 bag_first_within : (b : BagSoFar) (w : Word) (x : Span) → is_between (bag_first b w x) ≡ false
 bag_first_within b w x = grind (arith, bag_ended_within)
+
 bag_next_within : (b : BagSoFar) (w : Word) (x : Span) → is_between (bag_next b w x) ≡ false
 bag_next_within b w x = grind arith
+
 bag_unit_within : (b : BagSoFar) (w : Word) → is_between (bag_unit b w) ≡ false
 bag_unit_within b w = grind arith
+
 bag_behind_within : (b : BagSoFar) (w : Word) → is_between (bag_behind b w) ≡ false
 bag_behind_within b w = grind (arith, bag_ended_within)
+
 bag_within : (b : BagSoFar) (place : BagPlace) (w : Word) (x : Span) → is_between (step_bag b place w x) ≡ false
 bag_within b place w x = grind (arith, bag_first_within, bag_next_within, bag_unit_within, bag_behind_within)
+
 head_within : (place : ℕ) (label : Option Span) (head : RawAtom) (w : Word) → is_between (behind_head place label head w) ≡ false
 head_within place label head w = grind arith
+
 goal_within : (c : ClauseSoFar) (w : Word) → is_between (behind_goal c w) ≡ false
 goal_within c w = grind arith
+
 use_within : (used : Use) (a : RawAtom) (w : Word) → is_between (behind_atom used a w) ≡ false
 use_within used a w = grind (arith, head_within, goal_within, behind_in_within, bag_behind_within)
+
 grown_within : (g : Grown) (used : Use) (w : Word) → is_between (grown g used w) ≡ false
 grown_within g used w = grind (arith, use_within)
+
 atom_within : (a : AtomSoFar) (used : Use) (w : Word) (x : Span) → is_between (step_atom a used w x) ≡ false
 atom_within a used w x = grown_within (grow_in a.levels a w x) used w
+
 named_within : (name : Span) (args : List Span) → is_between (names_begun name args) ≡ false
 named_within name args = grind arith
+
 names_within : (name : Span) (args : List Span) (w : Word) (x : Span) → is_between (step_names name args w x) ≡ false
 names_within name args w x = grind (arith, named_within, atom_within)
+
 declared_within : (name : Span) (args : List Span) (w : Word) (x : Span) → is_between (step_declared name args w x) ≡ false
 declared_within name args w x = grind arith
+
 labelled_within : (a : Span) (w : Word) (x : Span) → is_between (labelled a w x) ≡ false
 labelled_within a w x = grind (arith, before_elem_within)
+
 pub begin_within : (w : Word) (x : Span) → is_between (begin w x) ≡ false
 begin_within w x = grind (arith, before_elem_within)
+
 blank_within : (place : ℕ) (w : Word) → is_between (behind_blank place w) ≡ false
 blank_within place w = grind arith
+
 stage_word_within : (place : ℕ) (w : Word) (x : Span) → is_between (stage_word place w x) ≡ false
 stage_word_within place w x = grind arith
+
 stage_named_within : (place : ℕ) (a : Span) (w : Word) → is_between (stage_begun place a w) ≡ false
 stage_named_within place a w = grind (arith, behind_left_within)
+
 stage_equals_within : (a : Span) (w : Word) → is_between (stage_equals a w) ≡ false
 stage_equals_within a w = grind arith
+
 context_word_within : (w : Word) (x : Span) → is_between (context_word w x) ≡ false
 context_word_within w x = grind arith
+
 context_named_within : (a : Span) (w : Word) → is_between (context_begun a w) ≡ false
 context_named_within a w = grind arith
+
 context_equals_within : (a : Span) (w : Word) → is_between (context_equals a w) ≡ false
 context_equals_within a w = grind arith
+
 interactive_within : (w : Word) (x : Span) → is_between (interactive_word w x) ≡ false
 interactive_within w x = grind arith
+
 trace_word_within : (place : ℕ) (w : Word) (x : Span) → is_between (trace_word place w x) ≡ false
 trace_word_within place w x = grind arith
+
 trace_limit_within : (place : ℕ) (limit : Option Span) (w : Word) (x : Span) → is_between (trace_limit place limit w x) ≡ false
 trace_limit_within place limit w x = grind arith
+
 trace_stage_within : (place : ℕ) (limit : Option Span) (a : Span) (w : Word) (x : Span) → is_between (trace_stage place limit a w x) ≡ false
 trace_stage_within place limit a w x = grind arith
+
 ending_within : (given : RawItem) (w : Word) → is_between (step_ending given w) ≡ false
 ending_within given w = grind arith
+
 rules_within : (stage : StageSoFar) (w : Word) (x : Span) → is_between (step_rules stage w x) ≡ false
 rules_within stage w x = grind arith
+
 rule_named_within : (stage : StageSoFar) (a : Span) (w : Word) → is_between (rule_named stage a w) ≡ false
 rule_named_within stage a w = grind arith
+
 before_goal_within : (c : ClauseSoFar) (w : Word) (x : Span) → is_between (before_goal c w x) ≡ false
 before_goal_within c w x = grind arith
 
@@ -209,6 +247,7 @@ module _ (tokens : List Token) where
 
   front : (one other : List Symbol) → AreSaid (one ++ other) → AreSaid one
   front one other said = record { all = first_all _ one other said.all; few = let f = said.few in let e = length-append one other in omega arith }
+
   back : (one other : List Symbol) → AreSaid (one ++ other) → AreSaid other
   back one other said = record { all = rest_all _ one other said.all; few = let f = said.few in let e = length-append one other in omega arith }
 
@@ -229,6 +268,7 @@ module _ (tokens : List Token) where
 
   one_more : (args terms : ℕ) (nodes : List RawNode) → Fill (suc (args + terms)) nodes → Fill (args + 1 + terms) nodes
   one_more args terms nodes fill = let e : suc (args + terms) ≡ args + 1 + terms = omega arith in subst (λ n. Fill n nodes) e fill
+
   no_more : (terms : ℕ) (nodes : List RawNode) → Fill terms nodes → Fill (0 + terms) nodes
   no_more terms nodes fill = let e : terms ≡ 0 + terms = omega arith in subst (λ n. Fill n nodes) e fill
 
@@ -314,6 +354,7 @@ module _ (tokens : List Token) where
 
   elems_well : (side : Side) (symbols : List Symbol) (elems : List RawElem) → grammar.Elems side symbols elems → AreSaid symbols → AreElems elems
   elems_well _ _ _ (grammar.Elems.elems side first rest elems others is further) said = grind (arith, both_all, elem_well, front, stars_well, back)
+
   sides_well : (outer : Bool) (symbols : List Symbol) (left right : List RawElem) → grammar.Sides outer symbols left right → AreSaid symbols → AreElems left × AreElems right
   sides_well _ _ _ _ (grammar.Sides.sides outer arrow dot before after left right is is') said = grind (arith, elems_well, front, next, back)
 

@@ -50,8 +50,10 @@ module _ (source : Source) where
 
   added_wanted : (firsts : List (List ℕ × Span)) (name : List ℕ) (wants : Span) → wanted_in source (added firsts (name, wants)) ≡ further (wanted_in source firsts) (record { name = name; wants = said source wants })
   added_wanted firsts name wants = grind (arith, any_wanted, map-append)
+
   met_firsts : (old : Variables) (kind : RawKind) (at wants : Span) → wanted_in source (met_site source old kind at wants).firsts ≡ fold further (wanted_in source old.firsts) (wanted_at source old.blanks kind at (said source wants))
   met_firsts old kind at wants = grind (arith, added_wanted)
+
   met_blanks : (old : Variables) (kind : RawKind) (at wants : Span) → (met_site source old kind at wants).blanks ≡ blanks_behind old.blanks kind
   met_blanks old kind at wants = grind arith
 
@@ -200,6 +202,7 @@ record Clash (is : Option (List ℕ)) (wants : List ℕ) (at : ℕ) (fault : Fau
 
 clash_is : (is : Option (List ℕ)) (wants : List ℕ) (at : ℕ) (fault : Fault) → In (clash_if is wants at) fault → Clash is wants at fault
 clash_is is wants at fault h = grind (arith, in_nil, bytes_eq-Decides, in_one)
+
 clash_there : (is : Option (List ℕ)) (first wants : List ℕ) (at : ℕ) (fault : Fault) → is ≡ Some first → first ≢ wants → fault ≡ wrong TypeClash at → In (clash_if is wants at) fault
 clash_there is first wants at fault is_first apart fault_is = rw (is_first, fault_is) (grind (arith, bytes_eq-Decides first wants, here (wrong TypeClash at) []))
 
@@ -207,8 +210,10 @@ clash_there is first wants at fault is_first apart fault_is = rw (is_first, faul
 
 abbrev plain : Source → TraceItem → List RawAtom
 plain source trace = filter (λ atom. not (stands_for_context source atom)) (start_listed trace.start)
+
 abbrev context_atoms : Source → List RawAtom
 context_atoms source = flat_map (λ (context : ContextItem). context.atoms) (contexts_of source)
+
 abbrev trace_atoms : Source → List RawAtom
 trace_atoms source = flat_map (plain source) (traces_of source)
 
@@ -257,6 +262,7 @@ module _ (source : Source) (fault : Fault) where
 
   states_sound : (atoms : List RawAtom) → ((atom : RawAtom) → In atoms atom → In (scope_clashes source (atom ∷ [])) fault → IsScope source (atom ∷ [])) → In (state_clashes source atoms) fault → Mistyped source fault
   states_sound atoms are h = let atom = through (λ atom. scope_clashes source (atom ∷ [])) atoms fault h in scope_sound (atom.from ∷ []) (are atom.from atom.member atom.given) atom.given
+
   context_scope : (context : ContextItem) (atom : RawAtom) → In (contexts_of source) context → In context.atoms atom → IsScope source (atom ∷ [])
   context_scope context atom member h = state atom (to_contains (state_atoms source) atom (in_left (context_atoms source) (trace_atoms source) atom (via (λ context. context.atoms) (contexts_of source) context atom member h))) refl
 
@@ -282,6 +288,7 @@ module _ (source : Source) (fault : Fault) where
 
   site_found : (atoms : List RawAtom) (site : Site) → In (sites_of source atoms) site → In (clash_of source (type_of source atoms) site) fault → In (scope_clashes source atoms) fault
   site_found atoms site within h = grind (arith, through, via)
+
   state_among : (atom : RawAtom) → In (state_atoms source) atom → In (scope_clashes source (atom ∷ [])) fault → In (context_clashes source ++ trace_clashes source) fault
   state_among atom member h = grind (arith, through, in_left, via, plain source, in_right, from_filter, in_parts (context_atoms source) (trace_atoms source) atom member, context_atoms source, trace_atoms source)
 

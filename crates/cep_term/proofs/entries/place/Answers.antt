@@ -35,7 +35,7 @@ place_read [] a i x up is same = cc
 place_read (y ∷ entries) a zero x up is same = grind (arith, is, same)
 place_read (y ∷ entries) a (suc i) x up is same = (
   sym (ap (λ e. atom_cmp (entry_of y).0 (entry_of e).0) (get_or_from_slice_get entries i x x is) ∙ ap (atom_cmp (entry_of y).0) same)
-  ∙ below_at (λ e. e.0) atom_cmp entry_of (entry_of y).0 entries i x up.0 (slice_get_within entries i x is),
+      ∙ below_at (λ e. e.0) atom_cmp entry_of (entry_of y).0 entries i x up.0 (slice_get_within entries i x is),
   place_read entries a i x up.1 is same,
 )
 
