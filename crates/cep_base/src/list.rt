@@ -1,4 +1,4 @@
-ghost use Rattle.std.specs.Prelude.{◌≡◌, ◌<◌, ◌^◌, ◌↔◌, [], ◌∷◌, ◌++◌, length, slice_get, slice_set, Some, IsTrue, OnOk, OnErr};
+ghost use Rattle.std.specs.Prelude.{◌≡◌, ◌<◌, ◌^◌, ◌↔◌, [], ◌∷◌, ◌++◌, length, slice_get, slice_set, Some, IsTrue, OnOk, OnErr, MatchOption};
 ghost use Rattle.std.specs.Iterator.Adapters.{IterYieldsInOrder};
 ghost use Rattle.std.specs.Slice.Iter.{iter_rest};
 
@@ -66,6 +66,15 @@ impl<T> List<T> {
         ensures runs { IterYieldsInOrder T }
     {
         self.items.as_slice().iter()
+    }
+
+    /// Takes the last item, if there is one. It takes no memory.
+    pub fn pop(&mut self) -> Option<T>
+        ensures { MatchOption result
+            ((self.old ≡ []) × (self.new ≡ []))
+            (λ item. self.old ≡ self.new ++ item ∷ []) }
+    {
+        self.items.pop()
     }
 }
 

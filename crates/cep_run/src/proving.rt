@@ -12,7 +12,6 @@ ghost use Rattle.cep_rule.specs.Offers.{Applies};
 ghost use Rattle.cep_prove.specs.Answers.{IsGoal};
 ghost use Rattle.cep_run.specs.Turn.{IsProofWithin, ProveBacks};
 
-use crate::copying::copy_proof;
 use cep_base::Steps;
 use cep_log::Proofs;
 use cep_prove::answers;
@@ -74,8 +73,9 @@ fn prove<L: Ledger>(
     ensures ticked { steps.new ≡ steps.old + 1 }
 {
     instances_of_instances();
-    let list = answers(alloc, program, goal, known, height, steps)?;
-    copy_proof(alloc, &list.get(0).proof)
+    let mut list = answers(alloc, program, goal, known, height, steps)?;
+    let answer = list.pop().unwrap();
+    Ok(answer.proof)
 }
 
 // The variables with these values.
