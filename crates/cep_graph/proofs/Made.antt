@@ -1,6 +1,6 @@
 -- Tokens are made for atoms, and the oldest of an atom stands first.
 use Rattle.std.proofs.Common.{◌≡◌, ◌⊎◌, inl, inr, ⊎_elim, ℕ, zero, suc, ◌+◌, ◌<◌, ◌≤◌, Bool, true, false, cond, List, [], ◌∷◌, ◌++◌, length, map, drop, get_or, set, Some, refl, sym, ap, ◌∙◌, subst, arith, Contains, not, ◌||◌, ◌&&◌, append_assoc, append-nil, take, replicate}
-use Rattle.std.specs.Prelude.{slice_get, ◌==◌, nat_lt, ◌≢◌}
+use Rattle.std.specs.Prelude.{slice_get, ◌==◌, nat_lt}
 use Rattle.std.specs.Ordering.{is_eq, eq_by_cmp}
 use Rattle.std.specs.Cmp.{tied_itself, Equal-is}
 use Rattle.std.proofs.lemmas.Bool.{false≢true}

@@ -1,5 +1,5 @@
 -- One step more, and the numbers on which it rests.
-use Rattle.std.proofs.Common.{◌≡◌, ◌↔◌, ℕ, ◌<◌, true, List, [], sym, ap, ◌∙◌, subst, arith, Contains, ◌⊎◌, inl, inr, ⊎_elim, ◌+◌, ◌≤◌, Bool, false, cond, not, ◌∷◌, ◌++◌, length, refl, append-nil}
+use Rattle.std.proofs.Common.{◌≡◌, ◌↔◌, ℕ, ◌<◌, true, List, [], sym, ap, ◌∙◌, subst, arith, Contains, inl, inr, ⊎_elim, ◌+◌, ◌≤◌, Bool, false, cond, not, ◌∷◌, ◌++◌, length, refl, append-nil}
 use Rattle.std.specs.Prelude.{nat_lt, Result, Ok, Err, IfOk}
 use Rattle.std.specs.List.{AllByRecursion, filter, dedup}
 use Rattle.std.specs.Ordering.{nat_cmp}

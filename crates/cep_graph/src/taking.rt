@@ -13,80 +13,61 @@ use cep_term::Atom;
 use cep_term::laws::bags_are_lawful;
 use std::alloc::{AllocError, Global};
 
-/// Takes the tokens that a step picks for its premises from a place on, puts those that stay back
-/// with the step's number among their users, and adds the numbers of the steps that made one of
-/// them or used one that goes; 0 stands for the start.
-pub fn take(
-    alloc: Global,
-    signature: &Signature,
-    premises: &Premises,
-    values: &Terms,
-    number: u32,
-    i: usize,
-    tokens: &mut Tokens,
-    numbers: &mut Vec<u32>,
-) -> Result<(), AllocError>
-    requires within { i ≤ length premises.now }
-    requires range { AllByRecursion (λ (premise : PremiseTree).
-        IsAtomInRange (length values.now) premise.atom) premises.now }
-    requires ground { AllByRecursion (λ (premise : PremiseTree).
-        IsGroundAtom (full_instance values.now premise.atom)) premises.now }
-    ensures ids { OnOk result (KeepsIds tokens.old tokens.new) }
-    ensures takes { OnOk result (TakesFor signature.now values.now (drop i premises.now) number
-        tokens.old tokens.new numbers.old.items numbers.new.items) }
-{
-    bags_are_lawful();
-    if i == premises.len() {
-        return Ok(());
+/// A step that takes tokens: the signature of its program, the values of its rule's variables, and its
+/// number.
+#[derive(Clone, Copy)]
+pub struct Taking<'a> {
+    pub alloc: Global,
+    pub signature: &'a Signature,
+    pub values: &'a Terms,
+    pub number: u32,
+}
+
+impl Taking<'_> {
+    /// Takes the tokens that the step picks for its premises from a place on, puts those that stay
+    /// back with the step's number among their users, and adds the numbers of the steps that made one
+    /// of them or used one that goes; 0 stands for the start.
+    pub fn take(
+        &self,
+        premises: &Premises,
+        i: usize,
+        tokens: &mut Tokens,
+        numbers: &mut Vec<u32>,
+    ) -> Result<(), AllocError>
+        requires within { i ≤ length premises.now }
+        requires range { AllByRecursion (λ (premise : PremiseTree).
+            IsAtomInRange (length self.now.values.now) premise.atom) premises.now }
+        requires ground { AllByRecursion (λ (premise : PremiseTree).
+            IsGroundAtom (full_instance self.now.values.now premise.atom)) premises.now }
+        ensures ids { OnOk result (KeepsIds tokens.old tokens.new) }
+        ensures takes { OnOk result (TakesFor self.now.signature.now self.now.values.now
+            (drop i premises.now) self.now.number
+            tokens.old tokens.new numbers.old.items numbers.new.items) }
+    {
+        bags_are_lawful();
+        if i == premises.len() {
+            return Ok(());
+        }
+        let premise = premises.get(i);
+        let id = id_of_instance(self.alloc, tokens, &premise.atom, self.values)?;
+        if is_fact(self.signature, &premise.atom) {
+            numbers.push(tokens.oldest_maker(id))?;
+            return self.take(premises, i + 1, tokens, numbers);
+        }
+        let Some(mut trace) = tokens.take_oldest(id) else {
+            // no step of a legal log comes here
+            return Ok(());
+        };
+        numbers.push(trace.maker)?;
+        if !premise.kept {
+            add_all(numbers, &trace.users)?;
+            return self.take(premises, i + 1, tokens, numbers);
+        }
+        self.take(premises, i + 1, tokens, numbers)?;
+        trace.users.push(self.number)?;
+        tokens.put_back(id, trace)?;
+        Ok(())
     }
-    let premise = premises.get(i);
-    let id = id_of_instance(alloc, tokens, &premise.atom, values)?;
-    if is_fact(signature, &premise.atom) {
-        numbers.push(tokens.oldest_maker(id))?;
-        take(
-            alloc,
-            signature,
-            premises,
-            values,
-            number,
-            i + 1,
-            tokens,
-            numbers,
-        )?;
-        return Ok(());
-    }
-    let Some(mut trace) = tokens.take_oldest(id) else {
-        // no step of a legal log comes here
-        return Ok(());
-    };
-    numbers.push(trace.maker)?;
-    if !premise.kept {
-        add_all(numbers, &trace.users)?;
-        take(
-            alloc,
-            signature,
-            premises,
-            values,
-            number,
-            i + 1,
-            tokens,
-            numbers,
-        )?;
-        return Ok(());
-    }
-    take(
-        alloc,
-        signature,
-        premises,
-        values,
-        number,
-        i + 1,
-        tokens,
-        numbers,
-    )?;
-    trace.users.push(number)?;
-    tokens.put_back(id, trace)?;
-    Ok(())
 }
 
 /// The id of an instance.

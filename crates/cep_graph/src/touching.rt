@@ -5,7 +5,7 @@ ghost use Rattle.cep_graph.specs.Trails.{TouchesBy};
 
 use crate::making::make;
 use crate::sorting::in_order;
-use crate::taking::take;
+use crate::taking::Taking;
 use crate::tokens::Tokens;
 use cep_order::Numbers;
 use cep_rule::laws::types_are_lawful;
@@ -31,16 +31,13 @@ pub fn touch(
     types_are_lawful();
     bags_are_lawful();
     let mut numbers = Vec::new(alloc);
-    take(
+    let taking = Taking {
         alloc,
         signature,
-        &rule.premises,
         values,
         number,
-        0,
-        tokens,
-        &mut numbers,
-    )?;
+    };
+    taking.take(&rule.premises, 0, tokens, &mut numbers)?;
     make(alloc, signature, &rule.right, values, number, tokens)?;
     in_order(alloc, numbers)
 }

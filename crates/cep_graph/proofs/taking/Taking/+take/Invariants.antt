@@ -1,5 +1,5 @@
 use Rattle.std.proofs.Common.{◌-◌, length}
-use Rattle.cep_graph.proofs.taking.+take.Given as goal
+use Rattle.cep_graph.proofs.taking.Taking.+take.Given as goal
 
 abbrev pub decreases-take : goal.decreases-take
 decreases-take l = length l.premises.now - l.i
