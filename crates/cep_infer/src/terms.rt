@@ -48,7 +48,7 @@ fn read_term(
     match node.kind {
         RawKind::App => {
             let args = read_args(source, variables, nodes, cursor, node.args)?;
-            Ok(Term::App(number, Box::new(source.alloc(), args)?))
+            Ok(Term::App(number, args))
         }
         RawKind::Var | RawKind::Blank => Ok(Term::Var(number)),
     }
@@ -81,7 +81,7 @@ fn read_args(
     }
     let term = read_term(source, variables, nodes, cursor)?;
     let rest = read_args(source, variables, nodes, cursor, count - 1)?;
-    Ok(Args::Cons(term, Box::new(source.alloc(), rest)?))
+    Args::cons(source.alloc(), term, rest)
 }
 
 // The atom that is written, where so many blanks stand before it.

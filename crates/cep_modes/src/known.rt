@@ -33,7 +33,7 @@ pub(crate) fn are_known(known: &[bool], args: &Args) -> bool
 {
     match args {
         Args::Nil => true,
-        Args::Cons(t, rest) => is_known(known, t) && are_known(known, rest),
+        Args::Cons(cell) => is_known(known, &cell.first) && are_known(known, &cell.rest),
     }
 }
 
@@ -58,9 +58,9 @@ pub(crate) fn learn_all(known: &mut [bool], args: &Args)
 {
     match args {
         Args::Nil => {}
-        Args::Cons(t, rest) => {
-            learn(known, t);
-            learn_all(known, rest);
+        Args::Cons(cell) => {
+            learn(known, &cell.first);
+            learn_all(known, &cell.rest);
         }
     }
 }
@@ -84,9 +84,9 @@ pub(crate) fn learn_at(known: &mut [bool], positions: usize, args: &Args)
 {
     match args {
         Args::Nil => {}
-        Args::Cons(t, rest) => {
-            learn_where(known, positions % 2 == 1, t);
-            learn_at(known, positions / 2, rest);
+        Args::Cons(cell) => {
+            learn_where(known, positions % 2 == 1, &cell.first);
+            learn_at(known, positions / 2, &cell.rest);
         }
     }
 }
@@ -100,9 +100,9 @@ fn positions(known: &[bool], args: &Args) -> usize
 {
     match args {
         Args::Nil => 0,
-        Args::Cons(t, rest) => {
-            let others = 2 * positions(known, rest);
-            if is_known(known, t) {
+        Args::Cons(cell) => {
+            let others = 2 * positions(known, &cell.rest);
+            if is_known(known, &cell.first) {
                 others + 1
             } else {
                 others

@@ -58,7 +58,7 @@ fn first_of(args: &Args) -> Option<u32>
 {
     match args {
         Args::Nil => None,
-        Args::Cons(t, _) => match t {
+        Args::Cons(cell) => match &cell.first {
             Term::Var(_) => None,
             Term::App(c, _) => Some(*c),
         },

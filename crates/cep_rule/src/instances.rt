@@ -28,7 +28,7 @@ fn term_by(alloc: Global, term: &Term, values: &Terms) -> Result<Term, AllocErro
         Term::Var(v) => copy_term(alloc, values.get(*v as usize)),
         Term::App(c, args) => {
             let args = args_by(alloc, args, values)?;
-            Term::app(alloc, *c, args)
+            Ok(Term::App(*c, args))
         }
     }
 }
@@ -42,10 +42,10 @@ fn args_by(alloc: Global, args: &Args, values: &Terms) -> Result<Args, AllocErro
 {
     match args {
         Args::Nil => Ok(Args::Nil),
-        Args::Cons(t, rest) => {
-            let t = term_by(alloc, t, values)?;
-            let rest = args_by(alloc, rest, values)?;
-            Args::cons(alloc, t, rest)
+        Args::Cons(cell) => {
+            let first = term_by(alloc, &cell.first, values)?;
+            let rest = args_by(alloc, &cell.rest, values)?;
+            Args::cons(alloc, first, rest)
         }
     }
 }

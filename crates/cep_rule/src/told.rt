@@ -50,10 +50,11 @@ fn are_instances(args: &Args, patterns: &Args, values: &[Term]) -> bool
 {
     match patterns {
         Args::Nil => matches!(args, Args::Nil),
-        Args::Cons(pattern, patterns) => match args {
+        Args::Cons(cell) => match args {
             Args::Nil => false,
-            Args::Cons(t, args) => {
-                is_instance(t, pattern, values) && are_instances(args, patterns, values)
+            Args::Cons(other) => {
+                is_instance(&other.first, &cell.first, values)
+                    && are_instances(&other.rest, &cell.rest, values)
             }
         },
     }
@@ -83,10 +84,11 @@ fn same_args(one: &Args, values: &[Term], other: &Args, others: &[Term]) -> bool
 {
     match one {
         Args::Nil => matches!(other, Args::Nil),
-        Args::Cons(t, rest) => match other {
+        Args::Cons(cell) => match other {
             Args::Nil => false,
-            Args::Cons(u, more) => {
-                same_term(t, values, u, others) && same_args(rest, values, more, others)
+            Args::Cons(other) => {
+                same_term(&cell.first, values, &other.first, others)
+                    && same_args(&cell.rest, values, &other.rest, others)
             }
         },
     }
@@ -120,7 +122,7 @@ fn nodes_among(args: &Args) -> Option<u64>
 {
     match args {
         Args::Nil => Some(0),
-        Args::Cons(t, rest) => nodes_of(t)?.checked_add(nodes_among(rest)?),
+        Args::Cons(cell) => nodes_of(&cell.first)?.checked_add(nodes_among(&cell.rest)?),
     }
 }
 
@@ -146,7 +148,10 @@ fn all_nodes_by(args: &Args, values: &[Term]) -> Option<u64>
 {
     match args {
         Args::Nil => Some(0),
-        Args::Cons(t, rest) => nodes_by(t, values)?.checked_add(all_nodes_by(rest, values)?),
+        Args::Cons(cell) => {
+            let first = nodes_by(&cell.first, values)?;
+            first.checked_add(all_nodes_by(&cell.rest, values)?)
+        }
     }
 }
 
@@ -171,7 +176,7 @@ fn are_within(args: &Args, levels: u64) -> bool
 {
     match args {
         Args::Nil => true,
-        Args::Cons(t, rest) => is_within(t, levels) && are_within(rest, levels),
+        Args::Cons(cell) => is_within(&cell.first, levels) && are_within(&cell.rest, levels),
     }
 }
 
@@ -198,8 +203,8 @@ fn are_within_by(args: &Args, values: &[Term], levels: u64) -> bool
 {
     match args {
         Args::Nil => true,
-        Args::Cons(t, rest) => {
-            is_within_by(t, values, levels) && are_within_by(rest, values, levels)
+        Args::Cons(cell) => {
+            is_within_by(&cell.first, values, levels) && are_within_by(&cell.rest, values, levels)
         }
     }
 }

@@ -32,9 +32,10 @@ fn are_arguments(cons: &Cons, sorts: &[u32], args: &Args) -> bool
 {
     match args {
         Args::Nil => sorts.is_empty(),
-        Args::Cons(t, rest) => match sorts {
+        Args::Cons(cell) => match sorts {
             [] => false,
-            [sort, sorts @ ..] => is_value(cons, *sort, t) && are_arguments(cons, sorts, rest),
+            [sort, sorts @ ..] => is_value(cons, *sort, &cell.first)
+                && are_arguments(cons, sorts, &cell.rest),
         },
     }
 }

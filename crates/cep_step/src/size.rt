@@ -70,9 +70,9 @@ pub(crate) fn args_size(args: &Args, sizes: &[Size]) -> Size
 {
     match args {
         Args::Nil => Size { nodes: 0, depth: 0 },
-        Args::Cons(t, rest) => {
-            let first = term_size(t, sizes);
-            let others = args_size(rest, sizes);
+        Args::Cons(cell) => {
+            let first = term_size(&cell.first, sizes);
+            let others = args_size(&cell.rest, sizes);
             Size {
                 nodes: first.nodes.saturating_add(others.nodes),
                 depth: first.depth.max(others.depth),

@@ -48,10 +48,10 @@ pub(crate) fn intern_args(
 {
     match args {
         Args::Nil => Ok(()),
-        Args::Cons(t, rest) => {
-            let id = intern_term(alloc, terms, t)?;
+        Args::Cons(cell) => {
+            let id = intern_term(alloc, terms, &cell.first)?;
             key.push(id)?;
-            intern_args(alloc, terms, rest, key)
+            intern_args(alloc, terms, &cell.rest, key)
         }
     }
 }

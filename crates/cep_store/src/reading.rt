@@ -17,7 +17,7 @@ pub(crate) fn read_term(alloc: Global, terms: &Keys, id: u64) -> Result<Term, Al
 {
     let key = terms.get(id);
     let args = read_args(alloc, terms, ids_in(key))?;
-    Term::app(alloc, head_in(key), args)
+    Ok(Term::App(head_in(key), args))
 }
 
 // The arguments with these ids.

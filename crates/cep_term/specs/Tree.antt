@@ -1,7 +1,7 @@
 -- Terms and atoms as plain trees, without boxes; their sizes, and which of them are ground and fit.
 use Rattle.std.specs.Prelude.{◌≡◌, ℕ, ◌+◌, ◌<◌, ◌≤◌, ◌⊎◌, max}
 use Rattle.cep_term.specs.declared.term.Term.{Term}
-use Rattle.cep_term.specs.declared.term.Term.TheVariants.{Var, App'}
+use Rattle.cep_term.specs.declared.term.Term.TheVariants.{Var, App}
 use Rattle.cep_term.specs.declared.term.Args.{Args}
 use Rattle.cep_term.specs.declared.term.Args.TheVariants.{Nil, Cons'}
 use Rattle.cep_term.specs.declared.term.Atom.{Atom}
@@ -27,11 +27,11 @@ pub record AtomTree : Type 0 where
 abbrev mutual
   pub tree_of : Term → Tree
   tree_of (Var v) = variable v
-  tree_of (App' c p args) = node c (trees_of args)
+  tree_of (App c args) = node c (trees_of args)
 
   pub trees_of : Args → Trees
   trees_of Nil = none
-  trees_of (Cons' t p rest) = more (tree_of t) (trees_of rest)
+  trees_of (Cons' p t rest) = more (tree_of t) (trees_of rest)
 
 -- the tree of an atom
 abbrev pub atom_of : Atom → AtomTree

@@ -140,7 +140,7 @@ fn term_under(alloc: Global, t: &Term, values: &[Option<Term>]) -> Result<Term, 
         },
         Term::App(c, args) => {
             let args = args_under(alloc, args, values)?;
-            Term::app(alloc, *c, args)
+            Ok(Term::App(*c, args))
         }
     }
 }
@@ -153,10 +153,10 @@ fn args_under(alloc: Global, args: &Args, values: &[Option<Term>]) -> Result<Arg
 {
     match args {
         Args::Nil => Ok(Args::Nil),
-        Args::Cons(t, rest) => {
-            let t = term_under(alloc, t, values)?;
-            let rest = args_under(alloc, rest, values)?;
-            Args::cons(alloc, t, rest)
+        Args::Cons(cell) => {
+            let first = term_under(alloc, &cell.first, values)?;
+            let rest = args_under(alloc, &cell.rest, values)?;
+            Args::cons(alloc, first, rest)
         }
     }
 }

@@ -47,10 +47,10 @@ fn order_args(a: &Args, b: &Args) -> Ordering
 {
     match (a, b) {
         (Args::Nil, Args::Nil) => Ordering::Equal,
-        (Args::Nil, Args::Cons(_, _)) => Ordering::Less,
-        (Args::Cons(_, _), Args::Nil) => Ordering::Greater,
-        (Args::Cons(t, rest), Args::Cons(u, others)) => match order_term(t, u) {
-            Ordering::Equal => order_args(rest, others),
+        (Args::Nil, Args::Cons(_)) => Ordering::Less,
+        (Args::Cons(_), Args::Nil) => Ordering::Greater,
+        (Args::Cons(one), Args::Cons(other)) => match order_term(&one.first, &other.first) {
+            Ordering::Equal => order_args(&one.rest, &other.rest),
             unequal => unequal,
         },
     }

@@ -23,7 +23,7 @@ pub fn copy_term(alloc: Global, t: &Term) -> Result<Term, AllocError>
         Term::Var(v) => Ok(Term::Var(*v)),
         Term::App(c, args) => {
             let args = copy_args(alloc, args)?;
-            Term::app(alloc, *c, args)
+            Ok(Term::App(*c, args))
         }
     }
 }
@@ -35,10 +35,10 @@ fn copy_args(alloc: Global, args: &Args) -> Result<Args, AllocError>
 {
     match args {
         Args::Nil => Ok(Args::Nil),
-        Args::Cons(t, rest) => {
-            let t = copy_term(alloc, t)?;
-            let rest = copy_args(alloc, rest)?;
-            Args::cons(alloc, t, rest)
+        Args::Cons(cell) => {
+            let first = copy_term(alloc, &cell.first)?;
+            let rest = copy_args(alloc, &cell.rest)?;
+            Args::cons(alloc, first, rest)
         }
     }
 }

@@ -28,5 +28,5 @@ pub use copying::{copy, copy_term};
 pub use entries::Missing;
 pub use matching::meet;
 pub use measure::{depth, nodes};
-pub use term::{Args, Atom, Term};
+pub use term::{Args, ArgsCell, Atom, Term};
 pub use terms::Terms;

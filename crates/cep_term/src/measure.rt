@@ -32,7 +32,7 @@ fn args_nodes(args: &Args) -> u64
 {
     match args {
         Args::Nil => 0,
-        Args::Cons(t, rest) => term_nodes(t) + args_nodes(rest),
+        Args::Cons(cell) => term_nodes(&cell.first) + args_nodes(&cell.rest),
     }
 }
 
@@ -65,6 +65,6 @@ fn args_depth(args: &Args) -> u64
 {
     match args {
         Args::Nil => 0,
-        Args::Cons(t, rest) => term_depth(t).max(args_depth(rest)),
+        Args::Cons(cell) => term_depth(&cell.first).max(args_depth(&cell.rest)),
     }
 }

@@ -1,5 +1,5 @@
 ghost use Rattle.std.specs.Prelude.{◌≡◌, IfOk};
-ghost use Rattle.cep_term.specs.Tree.{node, more, tree_of, trees_of};
+ghost use Rattle.cep_term.specs.Tree.{more, tree_of, trees_of};
 
 use std::alloc::{AllocError, Global};
 
@@ -9,7 +9,7 @@ use std::alloc::{AllocError, Global};
 #[cycle(term)]
 pub enum Term {
     Var(u32),
-    App(u32, Box<Args>),
+    App(u32, Args),
 }
 
 /// The arguments of a constructor or a predicate, in written order.
@@ -17,7 +17,15 @@ pub enum Term {
 #[cycle(term)]
 pub enum Args {
     Nil,
-    Cons(Term, Box<Args>),
+    Cons(Box<ArgsCell>),
+}
+
+/// An argument, and those after it.
+#[derive(Drop)]
+#[cycle(term)]
+pub struct ArgsCell {
+    pub first: Term,
+    pub rest: Args,
 }
 
 /// A predicate by its number, with one term for each argument. Ceptre's atoms; one without
@@ -28,20 +36,11 @@ pub struct Atom {
     pub args: Args,
 }
 
-impl Term {
-    /// A constructor with these arguments. Only out of memory is refused.
-    pub fn app(alloc: Global, con: u32, args: Args) -> Result<Term, AllocError>
-        ensures { IfOk result (λ t. tree_of t ≡ node con (trees_of args)) }
-    {
-        Ok(Term::App(con, Box::new(alloc, args)?))
-    }
-}
-
 impl Args {
     /// One argument before these. Only out of memory is refused.
     pub fn cons(alloc: Global, first: Term, rest: Args) -> Result<Args, AllocError>
         ensures { IfOk result (λ args. trees_of args ≡ more (tree_of first) (trees_of rest)) }
     {
-        Ok(Args::Cons(first, Box::new(alloc, rest)?))
+        Ok(Args::Cons(Box::new(alloc, ArgsCell { first, rest })?))
     }
 }

@@ -13,14 +13,14 @@ fn only(alloc: Global, t: Term) -> Result<Args, AllocError>
     requires { IsGround (tree_of t) }
     ensures { IfOk result (λ args. AreGround (trees_of args)) }
 {
-    Ok(Args::Cons(t, Box::new(alloc, Args::Nil)?))
+    Args::cons(alloc, t, Args::Nil)
 }
 
 // The number `z`.
 fn zero(alloc: Global) -> Result<Term, AllocError>
     ensures { IfOk result (λ t. IsGround (tree_of t)) }
 {
-    Ok(Term::App(0, Box::new(alloc, Args::Nil)?))
+    Ok(Term::App(0, Args::Nil))
 }
 
 // The number `s z`.
@@ -28,7 +28,7 @@ fn one(alloc: Global) -> Result<Term, AllocError>
     ensures { IfOk result (λ t. IsGround (tree_of t)) }
 {
     let args = only(alloc, zero(alloc)?)?;
-    Ok(Term::App(1, Box::new(alloc, args)?))
+    Ok(Term::App(1, args))
 }
 
 // The atom of a number.

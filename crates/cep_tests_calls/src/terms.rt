@@ -73,7 +73,7 @@ fn a_bag_counts_copies(rt: HostRuntime) -> Result<(), Fail> {
 fn only(alloc: Global, t: Term) -> Result<Args, AllocError>
     ensures { IfOk result (λ args. trees_of args ≡ more (tree_of t) none) }
 {
-    Ok(Args::Cons(t, Box::new(alloc, Args::Nil)?))
+    Args::cons(alloc, t, Args::Nil)
 }
 
 // The pattern `num (s N)`.
@@ -82,7 +82,7 @@ fn num_successor(alloc: Global) -> Result<Atom, AllocError>
         ≡ record { pred = 1; args = more (node 1 (more (variable 0) none)) none }) }
 {
     let args = only(alloc, Term::Var(0))?;
-    let successor = Term::App(1, Box::new(alloc, args)?);
+    let successor = Term::App(1, args);
     Ok(Atom {
         pred: 1,
         args: only(alloc, successor)?,

@@ -21,13 +21,13 @@ pub begun_then : (old one next mid new : List ℕ) → mid ≡ old ++ one → Is
 begun_then old one next mid new done begun = grind (arith, append_assoc)
 
 -- of a term with arguments the parenthesis and the name were added, and a prefix of the arguments
-pub enclosed_begun : {T E : Type 0} (r : Result T E) (signature : Signature) (tree : Tree) (c : ℕ) (args seen : Trees) (con : Con) (name old opened named new : List ℕ) (t : Tree) (rest : Trees)
-    → tree ≡ node c args → slice_get signature.cons c ≡ Some con → name ≡ con.name → args ≡ more t rest → seen ≡ args
-    → opened ≡ old ++ 40 ∷ [] → named ≡ opened ++ name → IsBegun named (args_text signature seen) new
+pub enclosed_begun : {T E : Type 0} (r : Result T E) (signature : Signature) (tree : Tree) (c : ℕ) (args : Trees) (con : Con) (name old opened named new : List ℕ) (t : Tree) (rest : Trees)
+    → tree ≡ node c args → slice_get signature.cons c ≡ Some con → name ≡ con.name → args ≡ more t rest
+    → opened ≡ old ++ 40 ∷ [] → named ≡ opened ++ name → IsBegun named (args_text signature args) new
     → OnErr r (IsBegun old (term_text signature tree) new)
-enclosed_begun r signature tree c args seen con name old opened named new t rest is found spelled some same first then_name begun =
+enclosed_begun r signature tree c args con name old opened named new t rest is found spelled some first then_name begun =
     let text = args_text signature (more t rest) in
-    let behind : IsBegun named text new = subst (λ list. IsBegun named (args_text signature list) new) (same ∙ some) begun in
+    let behind : IsBegun named text new = subst (λ list. IsBegun named (args_text signature list) new) some begun in
     let inside : IsBegun opened (con.name ++ text) new = begun_then opened con.name text named new (then_name ∙ ap (λ bytes. opened ++ bytes) spelled) behind in
     let whole : IsBegun old (40 ∷ [] ++ ((con.name ++ text) ++ 41 ∷ [])) new =
     begun_then old (40 ∷ []) ((con.name ++ text) ++ 41 ∷ []) opened new first (begun_first opened (con.name ++ text) (41 ∷ []) new inside) in

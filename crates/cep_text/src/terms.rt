@@ -49,9 +49,9 @@ pub(crate) fn put_value(
         Term::Var(_) => Ok(()),
         Term::App(c, args) => {
             let name = signature.cons.get(*c as usize).name.bytes();
-            match &**args {
+            match args {
                 Args::Nil => out.append(name),
-                Args::Cons(_, _) => {
+                Args::Cons(_) => {
                     out.append(b"(")?;
                     out.append(name)?;
                     put_args(signature, args, out)?;
@@ -72,10 +72,10 @@ fn put_args(signature: &Signature, args: &Args, out: &mut Text) -> Result<(), Al
 {
     match args {
         Args::Nil => Ok(()),
-        Args::Cons(t, rest) => {
+        Args::Cons(cell) => {
             out.append(b" ")?;
-            put_value(signature, t, out)?;
-            put_args(signature, rest, out)
+            put_value(signature, &cell.first, out)?;
+            put_args(signature, &cell.rest, out)
         }
     }
 }

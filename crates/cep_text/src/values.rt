@@ -35,12 +35,7 @@ fn con<'p, 'a>(
 
 // A constructor without arguments at the front.
 #[tactic(auto, unfolding(crate::specs::Reading::bare_at))]
-fn bare<'a>(
-    alloc: Global,
-    vocabulary: &Vocabulary,
-    sort: u32,
-    bytes: &'a [u8],
-) -> Result<(Term, &'a [u8]), Stop>
+fn bare<'a>(vocabulary: &Vocabulary, sort: u32, bytes: &'a [u8]) -> Result<(Term, &'a [u8]), Stop>
     ensures read { Gives (λ x. (tree_of x.0, x.1.now)) result
         (bare_at vocabulary.now.signature.cons sort bytes.now) }
     ensures shorter { IfOk result (λ x. length x.1.now ≤ length bytes.now) }
@@ -49,7 +44,7 @@ fn bare<'a>(
     if kinds.len() != 0 {
         return Err(Stop::Unread);
     }
-    Ok((Term::app(alloc, number, Args::Nil)?, rest))
+    Ok((Term::App(number, Args::Nil), rest))
 }
 
 // A term of the type, of at most so many levels, at the front.
@@ -70,7 +65,7 @@ pub(crate) fn value<'a>(
     }
     match strip(b"(", bytes) {
         Some(inside) => enclosed(alloc, vocabulary, depth - 1, sort, inside),
-        None => bare(alloc, vocabulary, sort, bytes),
+        None => bare(vocabulary, sort, bytes),
     }
 }
 
@@ -91,7 +86,7 @@ fn enclosed<'a>(
 {
     let (number, kinds, rest) = con(vocabulary, sort, bytes)?;
     let (args, rest) = inside(alloc, vocabulary, depth, kinds, rest)?;
-    Ok((Term::app(alloc, number, args)?, rest))
+    Ok((Term::App(number, args), rest))
 }
 
 // Some arguments, and the parenthesis that ends them.
@@ -196,6 +191,6 @@ pub(crate) fn left_after_all(args: &Args, left: u64) -> Option<u64>
 {
     match args {
         Args::Nil => Some(left),
-        Args::Cons(t, rest) => left_after_all(rest, left_after(t, left)?),
+        Args::Cons(cell) => left_after_all(&cell.rest, left_after(&cell.first, left)?),
     }
 }

@@ -44,6 +44,4 @@ read_term-head_in-requires t c =
 pub read_term-returns : goal.read_term-returns
 read_term-returns t c =
     let args : trees_of c.in_ok-args.args ≡ args_by (terms_by c.args.terms.now) (drop 1 c.get-key.result.now) = c.in_ok-args.ensures ∙ ap (args_by (terms_by c.args.terms.now)) c.ids_in.ensures in
-    IfOk-weaker c.app.result _ _
-    (λ t is. rw is (reads_held c.args.terms.now c.args.id c.get-key.result.now c.requires.keys c.get-key.ensures ∙ sym (λ i. Some (node (c.head_in.ensures i) (args i)))))
-    c.app.ensures
+    reads_held c.args.terms.now c.args.id c.get-key.result.now c.requires.keys c.get-key.ensures ∙ sym (λ i. Some (node (c.head_in.ensures i) (args i)))

@@ -6,8 +6,5 @@ use Rattle.cep_text.proofs.terms.put_atom.Goals as goal
 pub put_args-requires : goal.put_args-requires
 put_args-requires c = rw c.parts.ensures.parts (atom_names _ _ _ c.requires.is_ground c.requires.typed)
 
-pub returns-clause-ok : goal.returns-clause-ok
-returns-clause-ok c = grind (arith, common_steps)
-
-pub returns-clause-err : goal.returns-clause-err
-returns-clause-err c = grind (arith, common_steps)
+pub returns : goal.returns
+returns c = grind (arith, common_steps)
