@@ -1,6 +1,7 @@
-use Rattle.std.proofs.Common.{◌∙◌}
-use Rattle.cep_choice.proofs.Drawing.{begins}
+use Rattle.rand_pcg.specs.Lcg.{state_after}
+use Rattle.cep_choice.specs.Draws.{generator_behind}
 use Rattle.cep_choice.proofs.draw.Draw.new.Goals as goal
 
 pub returns : goal.returns
-returns c = c.new.ensures ∙ begins c.args.seed
+unfolding generator_behind state_after
+returns c = c.new.ensures

@@ -1,6 +1,4 @@
-use Rattle.std.proofs.Common.{◌≡◌, sym, ◌∙◌, subst}
-use Rattle.rand_pcg.specs.Pcg.{pcg32}
-use Rattle.cep_choice.specs.Draws.{generator_behind}
+use Rattle.std.proofs.Common.{◌∙◌}
 use Rattle.cep_choice.proofs.Drawing.{draws}
 use Rattle.cep_choice.proofs.draw.Draw.place.Goals as goal
 
