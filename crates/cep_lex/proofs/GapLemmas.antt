@@ -1,7 +1,7 @@
 -- Gaps, one byte on, with lines and columns.
-use Rattle.std.proofs.Common.{◌≡◌, ◌≢◌, ℕ, ◌+◌, ◌<◌, ◌==◌, get_or, take, List, [], ◌∷◌, ◌++◌, length, refl, sym, ap, ◌∙◌, inl, arith, append_assoc, append-nil, length-append, not, eqb, ◌≤◌, Bool, true, false, IsTrue, drop, subst, take-append-drop, length-take-le}
+use Rattle.std.proofs.Common.{◌≡◌, ◌≢◌, ℕ, ◌+◌, ◌<◌, ◌==◌, get_or, take, List, [], ◌∷◌, ◌++◌, length, refl, sym, ap, ◌∙◌, inl, arith, append_assoc, append-nil, length-append, not, eqb, ◌≤◌, Bool, true, false, IsTrue, drop, take-append-drop, length-take-le}
 use Rattle.std.specs.List.{count_by}
-use Rattle.std.proofs.lemmas.Bool.{eq-eqb, ne_eqb, eqb-true, not-false, true≢false}
+use Rattle.std.proofs.lemmas.Bool.{eq-eqb, ne_eqb, cases_eq}
 use Rattle.std.proofs.lemmas.List.{take_more, drop_at, drop_more, take_all}
 use Rattle.std.proofs.lemmas.List.Sums.{sum_by_push}
 use Rattle.cep_base.specs.declared.place.Pos.{Pos}
@@ -11,20 +11,14 @@ use Rattle.cep_lex.specs.Cuts.{is_separator, IsGap, IsLastGap}
 use Rattle.cep_lex.specs.Cuts.IsGap.{empty, separator, comment}
 use Rattle.cep_lex.specs.Fronts.{IsGapLength}
 use Rattle.cep_lex.specs.Fronts.IsGapLength.{all, before}
+use Rattle.cep_base.proofs.Bytes.{unbroken_push}
+use Rattle.cep_base.proofs.Bools.{true_false}
 
 -- The line and the column, one byte on.
-
--- one more byte that is no LF
-pub unbroken_push : (bytes : List ℕ) (byte : ℕ) → IsUnbroken bytes → byte ≢ 10 → IsUnbroken (bytes ++ byte ∷ [])
-unbroken_push [] byte unbroken no_break = (no_break, tt)
-unbroken_push (b ∷ bytes) byte unbroken no_break = (unbroken.0, unbroken_push bytes byte unbroken.1 no_break)
 
 -- the place of the first byte
 pub place_start : IsPlaceAfter [] (record { line = 1; col = 1 })
 place_start = record { lines = []; bytes = []; cut = refl; ended = inl refl; unbroken = tt; line = refl; col = refl }
-
-pub no_bytes : (earlier : List ℕ) (pos : Pos) → IsPlaceAfter earlier pos → IsPlaceAfter (earlier ++ []) pos
-no_bytes earlier pos place = rw (append-nil earlier) place
 
 abbrev breaks : List ℕ → ℕ
 breaks bytes = count_by (λ byte. byte == 10) bytes
@@ -65,7 +59,7 @@ IsGapSoFar false bytes = IsGap bytes
 pub gap_append : (one two : List ℕ) → IsGap one → IsGap two → IsGap (one ++ two)
 gap_append one two empty other = other
 gap_append one two (separator byte gap is rest) other = separator byte (gap ++ two) is (gap_append gap two rest other)
-gap_append one two (comment body gap unbroken rest) other = subst (λ bytes. IsGap (37 ∷ bytes)) (sym (append_assoc body (10 ∷ gap) two)) (comment body (gap ++ two) unbroken (gap_append gap two rest other))
+gap_append one two (comment body gap unbroken rest) other = rw append_assoc (comment body (gap ++ two) unbroken (gap_append gap two rest other))
 
 -- a separator goes on with a gap
 pub gap_separator : (gap : List ℕ) (byte : ℕ) → IsGap gap → is_separator byte ≡ true → IsGap (gap ++ byte ∷ [])
@@ -81,43 +75,34 @@ open_more bytes byte is no_break = record { gap = is.gap; body = is.body ++ byte
 
 -- and ends with LF
 pub open_closed : (bytes : List ℕ) → IsOpen bytes → IsGap (bytes ++ 10 ∷ [])
-open_closed bytes is = subst IsGap (sym (ap (λ b. b ++ 10 ∷ []) is.cut ∙ append_assoc is.gap (37 ∷ is.body) (10 ∷ []))) (gap_append is.gap (37 ∷ (is.body ++ 10 ∷ [])) is.apart (comment is.body [] is.unbroken empty))
+open_closed bytes is = rw (is.cut, append_assoc) (gap_append is.gap (37 ∷ (is.body ++ 10 ∷ [])) is.apart (comment is.body [] is.unbroken empty))
 
 -- what stands at the end, in a comment or outside
 pub gap_ended : (in_comment : Bool) (bytes : List ℕ) → IsGapSoFar in_comment bytes → IsLastGap bytes
 gap_ended in_comment bytes is = grind arith
 
--- the bytes up to the next place
-at_next : (P : List ℕ → Type 0) (bytes : List ℕ) (i : ℕ) → i < length bytes → P (take i bytes ++ get_or bytes i 0 ∷ []) → P (take (i + 1) bytes)
-at_next P bytes i within is = subst P (sym (take_more bytes i 0 within)) is
-
 -- a byte within a comment
 pub in_comment_next : (bytes : List ℕ) (i : ℕ) (in_comment after : Bool) → i < length bytes → in_comment ≡ true → after ≡ not (eqb (get_or bytes i 0) 10) → IsGapSoFar in_comment (take i bytes) → IsGapSoFar after (take (i + 1) bytes)
-in_comment_next bytes i false after within is goes so_far = cc
-in_comment_next bytes i true true within is goes so_far = at_next IsOpen bytes i within (open_more (take i bytes) _ so_far (λ e. absurd (true≢false (goes ∙ ap not (eq-eqb _ 10 e)))))
-in_comment_next bytes i true false within is goes so_far =
-    at_next IsGap bytes i within (subst (λ b. IsGap (take i bytes ++ b ∷ [])) (sym (eqb-true (get_or bytes i 0) 10 (not-false _ (sym goes)))) (open_closed (take i bytes) so_far))
+in_comment_next bytes i in_comment after within is goes so_far = grind (arith, take_more bytes i 0 within, cases_eq (get_or bytes i 0) 10, open_more, open_closed, eq-eqb, ne_eqb)
 
 -- `%` outside comments
 pub comment_next : (bytes : List ℕ) (i : ℕ) (in_comment after : Bool) → i < length bytes → in_comment ≡ false → after ≡ true → get_or bytes i 0 ≡ 37 → IsGapSoFar in_comment (take i bytes) → IsGapSoFar after (take (i + 1) bytes)
-comment_next bytes i false true within is goes percent so_far =
-    at_next IsOpen bytes i within (subst (λ b. IsOpen (take i bytes ++ b ∷ [])) (sym percent) (gap_opened (take i bytes) so_far))
-comment_next bytes i in_comment after within is goes percent so_far = cc
+comment_next bytes i in_comment after within is goes percent so_far = grind (arith, take_more bytes i 0 within, gap_opened)
 
 -- a separator outside comments
 pub separator_next : (bytes : List ℕ) (i : ℕ) (in_comment after : Bool) → i < length bytes → in_comment ≡ false → after ≡ in_comment → is_separator (get_or bytes i 0) ≡ true → IsGapSoFar in_comment (take i bytes) → IsGapSoFar after (take (i + 1) bytes)
-separator_next bytes i false false within is goes separates so_far = at_next IsGap bytes i within (gap_separator (take i bytes) _ so_far separates)
-separator_next bytes i in_comment after within is goes separates so_far = cc
+separator_next bytes i in_comment after within is goes separates so_far = grind (arith, take_more bytes i 0 within, gap_separator)
 
 -- a byte outside comments that is in no gap
 pub gap_found : (bytes : List ℕ) (i : ℕ) (in_comment : Bool) → i < length bytes → in_comment ≡ false → is_separator (get_or bytes i 0) ≡ false → get_or bytes i 0 ≢ 37 → IsGapSoFar in_comment (take i bytes) → IsGapLength bytes i
 gap_found bytes i true within is no_separator no_comment so_far = cc
 gap_found bytes i false within is no_separator no_comment so_far =
-    before (take i bytes) (get_or bytes i 0) (drop (i + 1) bytes) (sym (take-append-drop i bytes) ∙ ap (λ b. take i bytes ++ b) (drop_more bytes i 0 within)) (sym (length-take-le i bytes (omega arith))) so_far (λ e. absurd (true≢false (sym e ∙ no_separator))) no_comment
+    let cut = rw (drop_more bytes i 0 within) at (sym (take-append-drop i bytes)) in
+    before (take i bytes) (get_or bytes i 0) (drop (i + 1) bytes) cut (sym (length-take-le i bytes (omega arith))) so_far (λ e. true_false _ e no_separator) no_comment
 
 -- nothing but a gap
 pub gap_whole : (bytes : List ℕ) (i : ℕ) (in_comment : Bool) → length bytes ≤ i → IsGapSoFar in_comment (take i bytes) → IsGapLength bytes (length bytes)
-gap_whole bytes i in_comment within so_far = all refl (gap_ended in_comment bytes (subst (IsGapSoFar in_comment) (take_all i bytes within) so_far))
+gap_whole bytes i in_comment within so_far = all refl (gap_ended in_comment bytes (rw (take_all i bytes within) at so_far))
 
 -- nothing but a gap, where it is as long as the bytes
 pub gap_all : (bytes : List ℕ) (size : ℕ) → IsGapLength bytes size → size ≡ length bytes → IsLastGap bytes

@@ -3,7 +3,7 @@ use Rattle.std.proofs.Common.{◌≡◌, ℕ, suc, ◌+◌, ◌≤◌, Bool, tru
 use Rattle.std.specs.List.{prefix_len}
 use Rattle.cep_lex.specs.Words.{Pass, Runs, SpellsToken, BeginsNoToken}
 use Rattle.std.specs.Char.{is_ascii_alphabetic, is_ascii_digit, is_ascii_lowercase, is_ascii_uppercase}
-use Rattle.std.proofs.lemmas.Bool.{or_left, or_right, or_from, and_left, and_parts, leb-true, lt-leb, eqb-true, cases_lt, cases_eq, eq-eqb, true≢false, and_right, false_from_ne_true}
+use Rattle.std.proofs.lemmas.Bool.{or_left, or_right, or_from, and_left, and_parts, leb-true, lt-leb, eqb-true, cases_lt, cases_eq, eq-eqb, and_right}
 use Rattle.cep_base.specs.Spelling.{is_name_byte}
 use Rattle.cep_lex.specs.declared.token.TokenKind.{TokenKind}
 use Rattle.cep_lex.specs.declared.token.TokenKind.TheVariants.{Name, Variable, Number, Directive, KwType, KwPred, KwBwd, KwFact, KwStage, KwContext, KwQui}
@@ -22,8 +22,10 @@ use Rattle.cep_lex.specs.declared.token.Token.{Token}
 use Rattle.cep_lex.specs.Cuts.{is_separator, IsGap, Cuts, IsLexed}
 use Rattle.cep_lex.specs.Cuts.IsGap.{empty}
 use Rattle.cep_lex.specs.Fronts.IsGapLength.{all, before}
-use Rattle.cep_lex.proofs.GapLemmas.{IsOpen, IsGapSoFar, gap_separator, gap_opened, open_more, open_closed, gap_ended}
+use Rattle.cep_lex.proofs.GapLemmas.{IsGapSoFar, gap_separator, gap_opened, open_more, open_closed, gap_ended}
 use Rattle.cep_lex.proofs.Steps.{end_here, gap_stops, bad_byte_here, long_name_here, token_here, token_ends, cut_next}
+use Rattle.cep_base.proofs.Bytes.{bytes_differ}
+use Rattle.cep_base.proofs.Bools.{true_false}
 
 -- Runs of bytes that pass a test.
 
@@ -104,22 +106,15 @@ pub record IsShapedAt (byte : ℕ) (tail word rest : List ℕ) : Type 0 where
   pub split : tail ≡ run ++ rest
   pub follows : Follows (class byte) run
 
-pub shaped_at : (byte : ℕ) (tail : List ℕ) (kind : TokenKind) (word rest : List ℕ) → byte ∷ tail ≡ word ++ rest → SpellsToken kind word → IsShapedAt byte tail word rest
-shaped_at byte tail kind word rest cut spelled = grind (arith, shaped)
-
 -- no token at the front is longer
 pub shaped_within : (byte : ℕ) (tail word rest : List ℕ) → IsShapedAt byte tail word rest → length word ≤ suc (most_behind (class byte) tail)
 shaped_within byte tail word rest shape = grind (arith, follows_within)
 
 -- The longest token at the front of bytes.
 
--- bytes of which there are some are the first and those after it
-first_and_tail : (bytes : List ℕ) → 0 < length bytes → bytes ≡ get_or bytes 0 0 ∷ drop 1 bytes
-first_and_tail bytes some = grind arith
-
 -- a token at the front, by the first byte
 shaped_front : (bytes : List ℕ) → 0 < length bytes → (kind : TokenKind) (word rest : List ℕ) → bytes ≡ word ++ rest → SpellsToken kind word → IsShapedAt (get_or bytes 0 0) (drop 1 bytes) word rest
-shaped_front bytes some kind word rest cut spelled = shaped_at _ _ kind word rest (sym (first_and_tail bytes some) ∙ cut) spelled
+shaped_front bytes some kind word rest cut spelled = grind (arith, shaped)
 
 -- a token of as many bytes as can follow its first is the longest
 pub front_from : (bytes : List ℕ) (kind : TokenKind) (size : ℕ) → 0 < length bytes → size ≡ 1 + most_behind (class (get_or bytes 0 0)) (drop 1 bytes) → size ≤ length bytes → SpellsToken kind (take size bytes) → IsFront bytes kind size
@@ -136,21 +131,17 @@ front_from bytes kind size some is within spelled = record {
 pub no_front : (bytes : List ℕ) → 0 < length bytes → ((run rest : List ℕ) → drop 1 bytes ≡ run ++ rest → Follows (class (get_or bytes 0 0)) run → ⊥) → BeginsNoToken bytes
 no_front bytes some nothing kind word rest cut spelled = grind (arith, shaped_front bytes some kind word rest cut spelled)
 
--- the bytes after the first, as they are passed on
-pub tail_is : (bytes : List ℕ) → take (length bytes - 1) (drop 1 bytes) ≡ drop 1 bytes
-tail_is bytes = take_rest bytes 1
-
 -- the longest run after the first byte ends within the bytes
 pub run_within : (p : ℕ → Bool) (bytes : List ℕ) (size : ℕ) → 0 < length bytes → size ≡ prefix_len p (take (length bytes - 1) (drop 1 bytes)) → 1 + size ≤ length bytes
-run_within p bytes size some is = grind (arith, prefix_len-le-length, tail_is)
+run_within p bytes size some is = grind (arith, prefix_len-le-length, take_rest bytes 1)
 
 -- a first byte and the longest run after it
 pub run_word : (first p : ℕ → Bool) (bytes : List ℕ) (size : ℕ) → 0 < length bytes → first (get_or bytes 0 0) ≡ true → size ≡ prefix_len p (take (length bytes - 1) (drop 1 bytes)) → Runs first p (take (1 + size) bytes)
-run_word first p bytes size some passes is = grind (arith, tail_is, longest_run)
+run_word first p bytes size some passes is = grind (arith, take_rest bytes 1, longest_run)
 
 -- a token that is a first byte and the longest run of those that may follow it
 pub run_front : (p : ℕ → Bool) (told : Class) (bytes : List ℕ) (kind : TokenKind) (size : ℕ) → 0 < length bytes → class (get_or bytes 0 0) ≡ told → ((tail : List ℕ) → most_behind told tail ≡ prefix_len p tail) → size ≡ prefix_len p (take (length bytes - 1) (drop 1 bytes)) → SpellsToken kind (take (1 + size) bytes) → IsFront bytes kind (1 + size)
-run_front p told bytes kind size some is most size_is spelled = grind (arith, most_behind (class (get_or bytes 0 0)) (drop 1 bytes), tail_is bytes, most_behind, front_from, run_within p bytes size some size_is)
+run_front p told bytes kind size some is most size_is spelled = grind (arith, most_behind (class (get_or bytes 0 0)) (drop 1 bytes), take_rest bytes 1, most_behind, front_from, run_within p bytes size some size_is)
 
 -- the first byte alone spells a token
 pub mark_spelled : (bytes : List ℕ) (kind : TokenKind) → 0 < length bytes → SpellsToken kind (get_or bytes 0 0 ∷ []) → SpellsToken kind (take 1 bytes)
@@ -163,22 +154,12 @@ mark_spelled bytes kind some spelled = grind arith
 abbrev HasGap : List ℕ → Type 0
 HasGap bytes = (size : ℕ) × IsGapLength bytes size
 
--- a byte in a comment, and one outside
-in_comment : (front : List ℕ) (byte : ℕ) (bytes : List ℕ) → IsOpen front → ((commented : Bool) → IsGapSoFar commented (front ++ byte ∷ []) → HasGap ((front ++ byte ∷ []) ++ bytes)) → HasGap ((front ++ byte ∷ []) ++ bytes)
-in_comment front byte bytes open_ rest = ⊎_elim (λ (ends : byte ≡ 10). rest false (subst (λ b. IsGap (front ++ b ∷ [])) (sym ends) (open_closed front open_))) (λ (other : byte ≢ 10). rest true (open_more front byte open_ other)) (cases_eq byte 10)
-
-outside : (front : List ℕ) (byte : ℕ) (bytes : List ℕ) (separates : Bool) → is_separator byte ≡ separates → IsGap front → ((commented : Bool) → IsGapSoFar commented (front ++ byte ∷ []) → HasGap ((front ++ byte ∷ []) ++ bytes)) → HasGap ((front ++ byte ∷ []) ++ bytes)
-outside front byte bytes true separates gap rest = rest false (gap_separator front byte gap separates)
-outside front byte bytes false separates gap rest =
-    ⊎_elim
-    (λ (percent : byte ≡ 37). rest true (subst (λ b. IsOpen (front ++ b ∷ [])) (sym percent) (gap_opened front gap)))
-    (λ (other : byte ≢ 37). (length front, before front byte bytes (append_assoc front (byte ∷ []) bytes) refl gap (λ e. absurd (true≢false (sym e ∙ separates))) other))
-    (cases_eq byte 37)
-
 gap_behind : (commented : Bool) (front bytes : List ℕ) → IsGapSoFar commented front → HasGap (front ++ bytes)
-gap_behind commented front [] so_far = subst HasGap (sym (append-nil front)) (length front, all refl (gap_ended commented front so_far))
-gap_behind true front (byte ∷ bytes) so_far = subst HasGap (append_assoc front (byte ∷ []) bytes) (in_comment front byte bytes so_far (λ commented so. gap_behind commented (front ++ byte ∷ []) bytes so))
-gap_behind false front (byte ∷ bytes) so_far = subst HasGap (append_assoc front (byte ∷ []) bytes) (outside front byte bytes (is_separator byte) refl so_far (λ commented so. gap_behind commented (front ++ byte ∷ []) bytes so))
+gap_behind commented front [] so_far = rw append-nil (length front, all refl (gap_ended commented front so_far))
+gap_behind commented front (byte ∷ bytes) so_far =
+    let rest : (commented : Bool) → IsGapSoFar commented (front ++ byte ∷ []) → HasGap (front ++ byte ∷ bytes) = λ commented so. rw append_assoc at (gap_behind commented (front ++ byte ∷ []) bytes so) in
+    let here : IsGap front → is_separator byte ≡ false → byte ≢ 37 → HasGap (front ++ byte ∷ bytes) = λ gap none other. (length front, before front byte bytes refl refl gap (λ e. true_false _ e none) other) in
+    grind (arith, here, rest true, rest false, open_closed, open_more, gap_opened, gap_separator, cases_eq byte 10, cases_eq byte 37)
 
 gap_within : (bytes : List ℕ) (size : ℕ) → IsGapLength bytes size → size ≤ length bytes
 gap_within bytes size given = grind (arith, length-append)
@@ -236,7 +217,7 @@ hash_token bytes size some is hash size_is =
     (λ (none : size ≡ 0). inr (no_front bytes some (λ run rest cut follows.
     let f : Follows Hash run = subst (λ c. Follows c run) is follows in
     let most = run_is_within is_ascii_alphabetic run rest f.0 in
-    let e : size ≡ prefix_len is_ascii_alphabetic (run ++ rest) = size_is ∙ ap (prefix_len is_ascii_alphabetic) (tail_is bytes ∙ cut) in
+    let e : size ≡ prefix_len is_ascii_alphabetic (run ++ rest) = size_is ∙ ap (prefix_len is_ascii_alphabetic) (take_rest bytes 1 ∙ cut) in
     absurd (omega (arith, f.1)))))
     (λ (more : size ≢ 0).
     let within = run_within is_ascii_alphabetic bytes size some size_is in
@@ -270,11 +251,8 @@ front_of bytes some = by (class (get_or bytes 0 0)) refl (class_told (get_or byt
 
 -- ---- token by token
 
-is_number : (kind : TokenKind) → (kind ≡ Number) ⊎ (kind ≢ Number)
-is_number kind = grind arith
-
 short_or_long : (kind : TokenKind) (size : ℕ) → IsShortLength kind size ⊎ IsLongLength kind size
-short_or_long kind size = ⊎_elim (λ number. inl (inl number)) (λ other. ⊎_elim (λ long. inr (other, long)) (λ short. inl (inr short)) (cases_lt MOST_NAME size)) (is_number kind)
+short_or_long kind size = grind (arith, cases_lt MOST_NAME size)
 
 abbrev HasAnswer : List ℕ → Type 0
 HasAnswer text = (answer : Result (List Token) LexFault) × IsLexed text answer
@@ -336,17 +314,13 @@ kind_in Other word = Name
 abbrev kind_of : List ℕ → TokenKind
 kind_of word = kind_in (class (get_or word 0 0)) word
 
--- a word that is none of the reserved ones
-differs : (word other : List ℕ) → word ≢ other → bytes_eq word other ≡ false
-differs word other apart = false_from_ne_true _ (λ same. apart ((bytes_eq-Decides word other).0 same))
-
 -- a lower-case letter is no upper-case one
 lower_not_upper : (byte : ℕ) → is_ascii_lowercase byte ≡ true → is_ascii_uppercase byte ≡ false
 lower_not_upper byte lower = let above : 97 ≤ byte = leb-true 97 byte (and_parts (nat_le 97 byte) (nat_le byte 122) lower).0 in and_right _ _ (lt-leb byte 90 (omega arith))
 
 -- a word spells the one kind
 spelled_kind : (kind : TokenKind) (word : List ℕ) → SpellsToken kind word → kind_of word ≡ kind
-spelled_kind kind word h = grind (arith, letter_class, or_right, lower_not_upper, differs, or_left, digit_class, hash_class, kind_of)
+spelled_kind kind word h = grind (arith, letter_class, or_right, lower_not_upper, bytes_differ, or_left, digit_class, hash_class, kind_of)
 
 pub same_kind : (one other : TokenKind) (word : List ℕ) → SpellsToken one word → SpellsToken other word → one ≡ other
 same_kind one other word is is' = sym (spelled_kind one word is) ∙ spelled_kind other word is'

@@ -1,5 +1,5 @@
 -- What stands after a gap is a function of the bytes, and a text has one list of tokens at most, or one first fault.
-use Rattle.std.proofs.Common.{◌≡◌, ℕ, ◌==◌, Bool, true, false, cond, List, [], ◌∷◌, ◌++◌, refl, sym, ap, subst, ◌∙◌, ⊎_elim, append_assoc, ◌+◌, length, take, drop, Result, Ok, Err, arith}
+use Rattle.std.proofs.Common.{◌≡◌, ℕ, ◌==◌, Bool, true, false, cond, List, [], ◌∷◌, ◌++◌, refl, sym, ap, ◌∙◌, append_assoc, ◌+◌, length, Result, Ok, Err, arith}
 use Rattle.std.proofs.lemmas.Bool.{or_cases, eqb-true, ne_eqb, false_from_ne_true}
 use Rattle.std.proofs.lemmas.List.{append-nil, append_cancel_right}
 use Rattle.cep_base.specs.Spelling.{IsUnbroken}
@@ -22,10 +22,6 @@ behind_gap in_comment [] = []
 behind_gap true (byte ∷ bytes) = cond (byte == 10) (behind_gap false bytes) (behind_gap true bytes)
 behind_gap false (byte ∷ bytes) = cond (byte == 37) (behind_gap true bytes) (cond (is_separator byte) (behind_gap false bytes) (byte ∷ bytes))
 
--- a byte is one of the separators
-separator_is : (byte : ℕ) → is_separator byte ≡ true → (P : ℕ → Type 0) → P 32 → P 9 → P 13 → P 10 → P byte
-separator_is byte separates P space tab cr lf = grind (arith, eqb-true, or_cases)
-
 -- a comment up to its LF
 skip_comment : (body rest : List ℕ) → IsUnbroken body → behind_gap true (body ++ 10 ∷ rest) ≡ behind_gap false rest
 skip_comment [] rest unbroken = refl
@@ -39,7 +35,7 @@ skip_open (byte ∷ body) unbroken = rw (ne_eqb byte 10 unbroken.0) (skip_open b
 -- a gap
 skip_gap : (gap rest : List ℕ) → IsGap gap → behind_gap false (gap ++ rest) ≡ behind_gap false rest
 skip_gap gap rest empty = refl
-skip_gap gap rest (separator byte gap' separates is) = grind (arith, separator_is, skip_gap gap' rest is)
+skip_gap gap rest (separator byte gap' separates is) = grind (arith, eqb-true, or_cases, skip_gap gap' rest is)
 skip_gap gap rest (comment body gap' unbroken is) = grind (arith, behind_gap, append_assoc, skip_comment, skip_gap gap' rest is)
 
 -- a gap that ends the text
@@ -52,14 +48,11 @@ skip_to bytes gap byte rest cut apart no_separator no_comment = grind (arith, be
 
 -- the first byte of a token is in no gap
 first_no_separator : (byte : ℕ) (run : List ℕ) → Follows (class byte) run → is_separator byte ≡ true → ⊥
-first_no_separator byte run follows separates = separator_is byte separates (λ b. Follows (class b) run → ⊥) (λ h. h) (λ h. h) (λ h. h) (λ h. h) follows
-
-first_no_comment : (byte : ℕ) (run : List ℕ) → Follows (class byte) run → byte ≡ 37 → ⊥
-first_no_comment byte run follows is = let h : Follows (class 37) run = subst (λ b. Follows (class b) run) is follows in h
+first_no_separator byte run follows separates = grind (arith, eqb-true, or_cases)
 
 -- a token stands after its gap
 pub skip_to_token : (bytes gap : List ℕ) (kind : TokenKind) (word rest : List ℕ) → Splits bytes gap kind word rest → behind_gap false bytes ≡ word ++ rest
-skip_to_token bytes gap kind word rest is = grind (arith, shaped, skip_to, first_no_separator, first_no_comment)
+skip_to_token bytes gap kind word rest is = grind (arith, shaped, skip_to, first_no_separator)
 
 -- A text has one list of tokens at most, or one first fault.
 
@@ -76,36 +69,25 @@ pub record IsAtFront (bytes : List ℕ) : Type 0 where
 same_front : (bytes : List ℕ) (one other : IsAtFront bytes) → (one.kind ≡ other.kind) × (one.word ≡ other.word) × (one.rest ≡ other.rest)
 same_front bytes one other =
     let e : one.word ++ one.rest ≡ other.word ++ other.rest = sym one.cut ∙ other.cut in
-    let below = one.longest other.kind other.word other.rest e other.spelled in
-    let above = other.longest one.kind one.word one.rest (sym e) one.spelled in
-    let size : length one.word ≡ length other.word = omega arith in
-    let word : one.word ≡ other.word = sym (take-append_seam one.word one.rest) ∙ ap (take (length one.word)) e ∙ ap (λ n. take n (other.word ++ other.rest)) size ∙ take-append_seam other.word other.rest in
-    let rest : one.rest ≡ other.rest = sym (drop-append_seam one.word one.rest) ∙ ap (drop (length one.word)) e ∙ ap (λ n. drop n (other.word ++ other.rest)) size ∙ drop-append_seam other.word other.rest in
-    (same_kind one.kind other.kind other.word (subst (SpellsToken one.kind) word one.spelled) other.spelled, word, rest)
+    let size : length one.word ≡ length other.word = omega (arith, one.longest other.kind other.word other.rest e other.spelled, other.longest one.kind one.word one.rest (sym e) one.spelled) in
+    let word : one.word ≡ other.word = grind (arith, take-append_seam one.word one.rest, take-append_seam other.word other.rest) in
+    let rest : one.rest ≡ other.rest = grind (arith, drop-append_seam one.word one.rest, drop-append_seam other.word other.rest) in
+    (same_kind one.kind other.kind other.word (rw word at one.spelled) other.spelled, word, rest)
 
 -- the token after a gap
 abbrev front_of : (bytes gap : List ℕ) (kind : TokenKind) (word rest : List ℕ) → Splits bytes gap kind word rest → IsAtFront (behind_gap false bytes)
 front_of bytes gap kind word rest is = record { kind = kind; word = word; rest = rest; cut = skip_to_token bytes gap kind word rest is; spelled = is.spelled; longest = is.longest }
 
--- a gap is told by what stands after it
-same_gap : (bytes gap gap' behind behind' : List ℕ) → bytes ≡ gap ++ behind → bytes ≡ gap' ++ behind' → behind ≡ behind' → gap ≡ gap'
-same_gap bytes gap gap' behind behind' one other e = append_cancel_right gap gap' behind' (ap (λ b. gap ++ b) (sym e) ∙ sym one ∙ other)
-
--- tokens of equal parts are equal
-same_token : (one other : Token) → one.kind ≡ other.kind → one.from ≡ other.from → one.to ≡ other.to → one ≡ other
-same_token one other kind from to = λ i. record { kind = kind i; from = from i; to = to i }
-
 -- two tokens at the front of the same bytes are the same
 same_start : (at : ℕ) (bytes : List ℕ) (one other : Token) (behind behind' : List ℕ) → StartsWith at bytes one behind → StartsWith at bytes other behind' → (one ≡ other) × (behind ≡ behind')
 same_start at bytes one other behind behind' is is' =
     let same = same_front _ (front_of bytes is.gap one.kind is.word behind is.split) (front_of bytes is'.gap other.kind is'.word behind' is'.split) in
-    let rest = sym (skip_to_token bytes is.gap one.kind is.word behind is.split) ∙ skip_to_token bytes is'.gap other.kind is'.word behind' is'.split in
-    let from : one.from ≡ other.from = is.from ∙ ap (λ g. at + length g) (same_gap bytes is.gap is'.gap _ _ is.split.cut is'.split.cut rest) ∙ sym is'.from in
-    (same_token one other same.0 from (is.to ∙ (λ i. from i + length (same.1 i)) ∙ sym is'.to), same.2)
+    let gaps : is.gap ≡ is'.gap = append_cancel_right is.gap is'.gap (is'.word ++ behind') (grind (arith, is.split.cut, is'.split.cut, same)) in
+    (grind (arith, gaps, same, is.from, is.to, is'.from, is'.to), same.2)
 
 -- a long token is no short one
 long_or_short : (kind : TokenKind) (word : List ℕ) → IsShort kind word → IsTooLong kind word → ⊥
-long_or_short kind word short long = ⊎_elim (λ number. long.0 number) (λ within. let above = long.1 in absurd (omega arith)) short
+long_or_short kind word short long = grind arith
 
 -- bytes that begin with a token are some
 front_some : (bytes : List ℕ) → IsAtFront bytes → bytes ≡ [] → ⊥
@@ -139,12 +121,11 @@ same_cuts : (at : ℕ) (bytes : List ℕ) (tokens others : List Token) (rest res
     → ((at : ℕ) (token : Token) (behind : List ℕ) → StartsWith at rest token behind → ⊥) → ((at : ℕ) (token : Token) (behind : List ℕ) → StartsWith at rest' token behind → ⊥)
     → Cuts at bytes tokens rest → Cuts at bytes others rest' → (tokens ≡ others) × (rest ≡ rest')
 same_cuts at bytes [] [] rest rest' stuck stuck' one other = (refl, sym one ∙ other)
-same_cuts at bytes [] (token ∷ others) rest rest' stuck stuck' one other = absurd (stuck at token other.0 (subst (λ b. StartsWith at b token other.0) one other.1))
-same_cuts at bytes (token ∷ tokens) [] rest rest' stuck stuck' one other = absurd (stuck' at token one.0 (subst (λ b. StartsWith at b token one.0) other one.1))
+same_cuts at bytes [] (token ∷ others) rest rest' stuck stuck' one other = absurd (stuck at token other.0 (rw one at other.1))
+same_cuts at bytes (token ∷ tokens) [] rest rest' stuck stuck' one other = absurd (stuck' at token one.0 (rw other at one.1))
 same_cuts at bytes (token ∷ tokens) (token' ∷ others) rest rest' stuck stuck' one other =
     let same = same_start at bytes token token' one.0 other.0 one.1 other.1 in
-    let onward : Cuts token'.to other.0 tokens rest = subst (λ t. Cuts t.to other.0 tokens rest) same.0 (subst (λ b. Cuts token.to b tokens rest) same.1 one.2) in
-    let more = same_cuts token'.to other.0 tokens others rest rest' stuck stuck' onward other.2 in
+    let more = same_cuts token'.to other.0 tokens others rest rest' stuck stuck' (rw (same.0, same.1) at one.2) other.2 in
     ((λ i. same.0 i ∷ more.0 i), more.1)
 
 -- one cutting ends in one way
@@ -157,4 +138,4 @@ lexed_one text one other is is' =
     let cut = is_cut text one is in
     let cut' = is_cut text other is' in
     let same = same_cuts 0 text cut.tokens cut'.tokens cut.rest cut'.rest (is_stuck _ _ _ one cut.ends) (is_stuck _ _ _ other cut'.ends) cut.cut cut'.cut in
-    same_end (length text) cut'.tokens cut'.rest one other (subst (λ r. Ends (length text) cut'.tokens r one) same.1 (subst (λ t. Ends (length text) t cut.rest one) same.0 cut.ends)) cut'.ends
+    same_end (length text) cut'.tokens cut'.rest one other (rw (same.0, same.1) at cut.ends) cut'.ends

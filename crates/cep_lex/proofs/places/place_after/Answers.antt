@@ -1,9 +1,9 @@
-use Rattle.std.proofs.Common.{arith}
-use Rattle.cep_lex.proofs.GapLemmas.{no_bytes, place_break, place_more}
+use Rattle.std.proofs.Common.{append-nil, arith}
+use Rattle.cep_lex.proofs.GapLemmas.{place_break, place_more}
 use Rattle.cep_lex.proofs.places.place_after.Goals as goal
 
 pub loop-byte-init : goal.loop-byte-init
-loop-byte-init c = record { so_far = λ before place. no_bytes before c.args.pos place; line = omega arith; col = omega arith }
+loop-byte-init c = record { so_far = λ before place. rw append-nil place; line = omega arith; col = omega arith }
 
 pub loop-byte-preserved-then-byte-ne10 : goal.loop-byte-preserved-then-byte-ne10
 loop-byte-preserved-then-byte-ne10 c = record {
