@@ -1,5 +1,5 @@
 -- Runs of the machine, and what may stand after a state.
-use Rattle.std.proofs.Common.{◌≡◌, ℕ, ◌+◌, true, false, List, [], ◌∷◌, ◌++◌, Option, None, Some, is_none, refl, suc, ◌<◌, ◌≤◌, length, get_or, set, take, sym, ap, ◌∙◌, arith, subst, append_assoc, map, length-append}
+use Rattle.std.proofs.Common.{◌≡◌, ℕ, ◌+◌, true, false, List, [], ◌∷◌, ◌++◌, Option, None, Some, is_none, refl, suc, ◌<◌, ◌≤◌, length, get_or, set, take, sym, ap, ◌∙◌, arith, subst, append_assoc, map, length-append, ◌⊎◌}
 use Rattle.cep_parse.specs.declared.raw.Span.{Span}
 use Rattle.cep_parse.specs.declared.raw.RawAtom.{RawAtom}
 use Rattle.cep_parse.specs.declared.raw.RawElem.{RawElem}
@@ -335,11 +335,6 @@ more_args_in (Whole ∷ levels) more name args nodes used = atom_at name args no
 
 -- The nodes of an atom: their arguments, and those of names.
 
--- as a write of the one node
-pub set_args_is : (nodes : List RawNode) (index args : ℕ) (d : RawNode) → index < length nodes → set nodes index (record { at = (get_or nodes index d).at; kind = (get_or nodes index d).kind; args = args }) ≡ set_args nodes index args
-set_args_is (n ∷ nodes) (suc index) args d in_bounds = ap (λ ns. n ∷ ns) (set_args_is nodes index args d (omega arith))
-set_args_is nodes index args d in_bounds = grind arith
-
 -- past the end nothing changes
 pub set_args_past : (nodes : List RawNode) (index args : ℕ) → length nodes ≤ index → nodes ≡ set_args nodes index args
 set_args_past (n ∷ nodes) (suc index) args past = ap (λ ns. n ∷ ns) (set_args_past nodes index args (omega arith))
@@ -479,63 +474,36 @@ mutual
   pub arg_runs : (symbols : List Symbol) (more : List RawNode) → Arg symbols more
       → (items : List RawItem) (name : Span) (args : ℕ) (nodes : List RawNode) (levels : List Level) (used : Use) (rest : List Symbol) → TakesArgs levels
       → run items (atom_at name args nodes levels used) (symbols ++ rest) ≡ run items (behind_term name args (nodes ++ more) levels used) rest
-  arg_runs symbols more (arg_name a) items name args nodes levels used rest flat = refl
-  arg_runs symbols more (arg_name a) items name args nodes levels used rest (within index count lower) = refl
-  arg_runs symbols more (arg_variable a) items name args nodes levels used rest flat = refl
-  arg_runs symbols more (arg_variable a) items name args nodes levels used rest (within index count lower) = refl
-  arg_runs symbols more (arg_blank a) items name args nodes levels used rest flat = refl
-  arg_runs symbols more (arg_blank a) items name args nodes levels used rest (within index count lower) = refl
-  arg_runs symbols more (arg_term open_ close inner more' term) items name args nodes levels used rest flat =
-      ap (run items (atom_at name args nodes (Empty ∷ []) used)) (append_assoc inner (at word.Close close ∷ []) rest) ∙ term_runs inner more' term items name args nodes [] used close rest
-  arg_runs symbols more (arg_term open_ close inner more' term) items name args nodes levels used rest (within index count lower) =
-      ap (run items (atom_at name args nodes (Empty ∷ Node index count ∷ lower) used)) (append_assoc inner (at word.Close close ∷ []) rest) ∙ term_runs inner more' term items name args nodes (Node index count ∷ lower) used close rest
+  arg_runs symbols more (arg_term open_ close inner more' term) items name args nodes levels used rest flat = rw append_assoc (term_runs inner more' term items name args nodes [] used close rest)
+  arg_runs symbols more (arg_term open_ close inner more' term) items name args nodes levels used rest (within index count lower) = rw append_assoc (term_runs inner more' term items name args nodes (Node index count ∷ lower) used close rest)
+  arg_runs symbols more given items name args nodes levels used rest flat = grind arith
+  arg_runs symbols more given items name args nodes levels used rest (within index count lower) = grind arith
 
   -- a term after its parenthesis, with the one that closes it
   pub term_runs : (symbols : List Symbol) (more : List RawNode) → Term symbols more
       → (items : List RawItem) (name : Span) (args : ℕ) (nodes : List RawNode) (levels : List Level) (used : Use) (close : Span) (rest : List Symbol)
       → run items (atom_at name args nodes (Empty ∷ levels) used) (symbols ++ at word.Close close ∷ rest) ≡ run items (behind_term name args (nodes ++ more) levels used) rest
   term_runs symbols more (applied a inner count others args') items name args nodes levels used close rest =
-      args_run inner count others args' items name args (nodes ++ node App a 0 ∷ []) (Node (length nodes) 0 ∷ levels) used (at word.Close close ∷ rest) (within (length nodes) 0 levels)
-      ∙ (let e : set_args ((nodes ++ node App a 0 ∷ []) ++ others) (length nodes) (0 + count) ≡ nodes ++ node App a count ∷ others =
-      ap (λ ns. set_args ns (length nodes) (0 + count)) (append_assoc nodes (node App a 0 ∷ []) others) ∙ set_args_at nodes others (node App a 0) (0 + count) ∙ ap (λ n. nodes ++ node App a n ∷ others) (omega arith) in
-      ap (λ ns. run items (behind_term name args ns levels used) rest) e)
+      grind (arith, append_assoc nodes (node App a 0 ∷ []) others, set_args_at nodes others (node App a 0) count, args_run inner count others args' items name args (nodes ++ node App a 0 ∷ []) (Node (length nodes) 0 ∷ levels) used (at word.Close close ∷ rest) (within (length nodes) 0 levels))
   term_runs symbols more (variable a) items name args nodes levels used close rest = refl
   term_runs symbols more (blank a) items name args nodes levels used close rest = refl
   term_runs symbols more (nested open_ close' inner more' term) items name args nodes levels used close rest =
-      ap (run items (atom_at name args nodes (Empty ∷ Empty ∷ levels) used)) (append_assoc inner (at word.Close close' ∷ []) (at word.Close close ∷ rest))
-      ∙ term_runs inner more' term items name args nodes (Empty ∷ levels) used close' (at word.Close close ∷ rest)
+      rw append_assoc (term_runs inner more' term items name args nodes (Empty ∷ levels) used close' (at word.Close close ∷ rest))
 
   -- arguments
   pub args_run : (symbols : List Symbol) (count : ℕ) (more : List RawNode) → Args symbols count more
       → (items : List RawItem) (name : Span) (args : ℕ) (nodes : List RawNode) (levels : List Level) (used : Use) (rest : List Symbol) → TakesArgs levels
       → run items (atom_at name args nodes levels used) (symbols ++ rest) ≡ run items (more_args_in levels count name args (nodes ++ more) used) rest
-  args_run symbols count more no_args items name args nodes levels used rest flat =
-      (λ i. run items (atom_at name (same_count i) (sym (append-nil nodes) i) [] used) rest) where
-        same_count : args ≡ args + 0
-        same_count = omega arith
-  args_run symbols count more no_args items name args nodes levels used rest (within index count' lower) =
-      (λ i. run items (atom_at name args (sym (append-nil nodes) i) (Node index (same_count i) ∷ lower) used) rest) where
-        same_count : count' ≡ count' + 0
-        same_count = omega arith
+  args_run symbols count more no_args items name args nodes levels used rest flat = grind (arith, append-nil nodes)
+  args_run symbols count more no_args items name args nodes levels used rest (within index count' lower) = grind (arith, append-nil nodes)
   args_run symbols count more (more_args first others n ms ms' one args') items name args nodes levels used rest flat =
-      ap (run items (atom_at name args nodes [] used)) (append_assoc first others rest)
-      ∙ arg_runs first ms one items name args nodes [] used (others ++ rest) flat
-      ∙ args_run others n ms' args' items name (args + 1) (nodes ++ ms) [] used rest flat
-      ∙ (let e : args + 1 + n ≡ args + (n + 1) = omega arith in
-      λ i. run items (atom_at name (e i) (append_assoc nodes ms ms' i) [] used) rest)
+      grind (arith, append_assoc, arg_runs first ms one items name args nodes [] used (others ++ rest) flat, args_run others n ms' args' items name (args + 1) (nodes ++ ms) [] used rest flat)
   args_run symbols count more (more_args first others n ms ms' one args') items name args nodes levels used rest (within index count' lower) =
-      ap (run items (atom_at name args nodes (Node index count' ∷ lower) used)) (append_assoc first others rest)
-      ∙ arg_runs first ms one items name args nodes (Node index count' ∷ lower) used (others ++ rest) (within index count' lower)
-      ∙ args_run others n ms' args' items name args (nodes ++ ms) (Node index (count' + 1) ∷ lower) used rest (within index (count' + 1) lower)
-      ∙ (let e : count' + 1 + n ≡ count' + (n + 1) = omega arith in
-      λ i. run items (atom_at name args (append_assoc nodes ms ms' i) (Node index (e i) ∷ lower) used) rest)
+      grind (arith, append_assoc, arg_runs first ms one items name args nodes (Node index count' ∷ lower) used (others ++ rest) (within index count' lower), args_run others n ms' args' items name args (nodes ++ ms) (Node index (count' + 1) ∷ lower) used rest (within index (count' + 1) lower))
 
 -- what may stand after an atom
-pub data StandsBehind : Word → Type 0 where
-  dot : StandsBehind word.Dot
-  back : StandsBehind word.Back
-  star : StandsBehind word.Star
-  lolli : StandsBehind word.Lolli
+abbrev pub StandsBehind : Word → Type 0
+StandsBehind mark = (mark ≡ word.Dot) ⊎ (mark ≡ word.Back) ⊎ (mark ≡ word.Star) ⊎ (mark ≡ word.Lolli)
 
 -- the nodes of names
 abbrev pub name_nodes : List Span → List RawNode
@@ -545,17 +513,9 @@ name_nodes names = map (λ a. node App a 0) names
 pub names_run : (symbols : List Symbol) (count : ℕ) (more : List RawNode) → Args symbols count more
     → (items : List RawItem) (name : Span) (names : List Span) (mark : Word) (place : Span) (rest : List Symbol) → StandsBehind mark
     → run items (state.Names name names) (symbols ++ at mark place ∷ rest) ≡ run items (atom_at name (length names + count) (name_nodes names ++ more) [] (use_.First name.from None)) (at mark place ∷ rest)
-names_run symbols count more no_args items name names mark place rest stands = names_end items name names mark place rest stands ∙ (let e : length names ≡ length names + 0 = omega arith in λ i. run items (atom_at name (e i) (sym (append-nil (name_nodes names)) i) [] (use_.First name.from None)) (at mark place ∷ rest)) where
-  names_end : (items : List RawItem) (name : Span) (names : List Span) (mark : Word) (place : Span) (rest : List Symbol) → StandsBehind mark → run items (state.Names name names) (at mark place ∷ rest) ≡ run items (atom_at name (length names) (name_nodes names) [] (use_.First name.from None)) (at mark place ∷ rest)
-  names_end items name names mark place rest dot = refl
-  names_end items name names mark place rest back = refl
-  names_end items name names mark place rest star = refl
-  names_end items name names mark place rest lolli = refl
+names_run symbols count more no_args items name names mark place rest stands = grind (arith, append-nil (name_nodes names))
 names_run symbols count more (more_args first others n ms ms' (arg_name a) args') items name names mark place rest stands =
-    names_run others n ms' args' items name (names ++ a ∷ []) mark place rest stands
-    ∙ (let e : length (names ++ a ∷ []) + n ≡ length names + (n + 1) = let s = length-append names (a ∷ []) in omega arith in
-    let m : name_nodes (names ++ a ∷ []) ++ ms' ≡ name_nodes names ++ (node App a 0 ∷ ms') = ap (λ ns. ns ++ ms') (map-append (λ b. node App b 0) names (a ∷ [])) ∙ append_assoc (name_nodes names) (node App a 0 ∷ []) ms' in
-    λ i. run items (atom_at name (e i) (m i) [] (use_.First name.from None)) (at mark place ∷ rest))
+    grind (arith, length-append names (a ∷ []), map-append (λ b. node App b 0) names (a ∷ []), append_assoc (name_nodes names) (node App a 0 ∷ []) ms', names_run others n ms' args' items name (names ++ a ∷ []) mark place rest stands)
 names_run symbols count more (more_args first others n ms ms' (arg_variable a) args') items name names mark place rest stands =
     args_run _ _ _ (more_args first others n ms ms' (arg_variable a) args') items name (length names) (name_nodes names) [] (use_.First name.from None) (at mark place ∷ rest) flat
 names_run symbols count more (more_args first others n ms ms' (arg_blank a) args') items name names mark place rest stands =

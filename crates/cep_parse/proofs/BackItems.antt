@@ -1,5 +1,5 @@
 -- Derivations of rules, goals and bags run to what they give.
-use Rattle.std.proofs.Common.{◌≡◌, ℕ, ◌+◌, true, false, List, [], ◌∷◌, ◌++◌, Option, None, Some, is_none, refl, sym, ap, subst, ◌∙◌, arith, append_assoc, Bool, length, suc, map}
+use Rattle.std.proofs.Common.{◌≡◌, ℕ, ◌+◌, true, false, List, [], ◌∷◌, ◌++◌, Option, None, Some, is_none, refl, sym, ap, subst, ◌∙◌, arith, append_assoc, Bool, length, suc, map, ◌⊎◌, inl, inr}
 use Rattle.std.proofs.lemmas.List.{append-nil}
 use Rattle.cep_parse.specs.declared.raw.Span.{Span}
 use Rattle.cep_parse.specs.declared.raw.RawAtom.{RawAtom}
@@ -99,11 +99,9 @@ elem_back_right stage first fs h place label left right behind i up = record {
 atom_back : (right : Option (List RawElem)) (stage : Option StageSoFar) (place : ℕ) (label : Option Span) (left : List RawElem) (x : Span) (rest : List Symbol) (i : RawItem)
     → InAtomRest (atom_begun x) (use_.Elem (record { stage = stage; at = place; label = label; left = left; right = right }) false) rest i → SideRest Elems right stage place label left (at word.Name x ∷ rest) i
 atom_back None stage place label left x rest i up =
-    subst (λ r. LeftRest Elems stage place label left (at word.Name x ∷ r) i) (sym up.cut)
-    (elem_back_left stage (at word.Name x ∷ up.front) (elem.Atom false up.atom ∷ []) (elem_atom (left_of stage) _ up.atom (whole_atom_of x up.front up.atom up.read)) place label left up.behind i up.after)
+    rw up.cut (elem_back_left stage (at word.Name x ∷ up.front) (elem.Atom false up.atom ∷ []) (elem_atom (left_of stage) _ up.atom (whole_atom_of x up.front up.atom up.read)) place label left up.behind i up.after)
 atom_back (Some right) stage place label left x rest i up =
-    subst (λ r. RightRest Elems stage place label left right (at word.Name x ∷ r) i) (sym up.cut)
-    (elem_back_right stage (at word.Name x ∷ up.front) (elem.Atom false up.atom ∷ []) (elem_atom (right_of stage) _ up.atom (whole_atom_of x up.front up.atom up.read)) place label left right up.behind i up.after)
+    rw up.cut (elem_back_right stage (at word.Name x ∷ up.front) (elem.Atom false up.atom ∷ []) (elem_atom (right_of stage) _ up.atom (whole_atom_of x up.front up.atom up.read)) place label left right up.behind i up.after)
 
 -- before an element
 pub before_elem_back : (right : Option (List RawElem)) (stage : Option StageSoFar) (place : ℕ) (label : Option Span) (left : List RawElem) (w : Word) (x : Span) (rest : List Symbol) (i : RawItem)
@@ -119,8 +117,7 @@ before_elem_back right stage place label left w x rest i h = grind arith
 kept_back : (right : Option (List RawElem)) (stage : Option StageSoFar) (place : ℕ) (label : Option Span) (left : List RawElem) (w : Word) (x : Span) (rest : List Symbol) (i : RawItem)
     → NextRest (behind_dollar (record { stage = stage; at = place; label = label; left = left; right = right }) w x) rest i → KeptRest right stage place label left (at w x ∷ rest) i
 kept_back None stage place label left word.Name x rest i up = λ y.
-    subst (λ r. LeftRest Elems stage place label left (at word.Dollar y ∷ at word.Name x ∷ r) i) (sym up.cut)
-    (elem_back_left stage (at word.Dollar y ∷ at word.Name x ∷ up.front) (elem.Atom true up.atom ∷ []) (kept (is_none stage) y _ up.atom (whole_atom_of x up.front up.atom up.read)) place label left up.behind i up.after)
+    rw up.cut (elem_back_left stage (at word.Dollar y ∷ at word.Name x ∷ up.front) (elem.Atom true up.atom ∷ []) (kept (is_none stage) y _ up.atom (whole_atom_of x up.front up.atom up.read)) place label left up.behind i up.after)
 kept_back right stage place label left w x rest i h = grind arith
 
 -- after `(`
@@ -224,46 +221,38 @@ abbrev pub rule_at : Option StageSoFar → ℕ → Option Span → List RawElem 
 rule_at stage place label left right where_ = state.Rule (record { stage = stage; at = place; label = label; left = left; right = right }) where_
 
 -- what may stand after an element
-pub data EndsElem : Word → Type 0 where
-  star : EndsElem word.Star
-  lolli : EndsElem word.Lolli
-  dot : EndsElem word.Dot
+abbrev pub EndsElem : Word → Type 0
+EndsElem mark = (mark ≡ word.Star) ⊎ (mark ≡ word.Lolli) ⊎ (mark ≡ word.Dot)
 
 -- after an atom on the left
 left_atom_ends : (items : List RawItem) (stage : Option StageSoFar) (place : ℕ) (label : Option Span) (left : List RawElem) (keeps : Bool) (name : Span) (count : ℕ) (nodes : List RawNode) (mark : Word) (x : Span) (rest : List Symbol) → EndsElem mark
     → run items (atom_at name count nodes [] (use_.Elem (record { stage = stage; at = place; label = label; left = left; right = None }) keeps)) (at mark x ∷ rest)
     ≡ run items (rule_at stage place label (left ++ elem.Atom keeps (record { name = name; args = count; nodes = nodes }) ∷ []) None rule.Behind) (at mark x ∷ rest)
-left_atom_ends items stage place label left keeps name count nodes mark x rest star = refl
-left_atom_ends items stage place label left keeps name count nodes mark x rest lolli = refl
-left_atom_ends items stage place label left keeps name count nodes mark x rest dot = refl
+left_atom_ends items stage place label left keeps name count nodes mark x rest ends = grind arith
 
 -- and on the right
 right_atom_ends : (items : List RawItem) (stage : Option StageSoFar) (place : ℕ) (label : Option Span) (left right : List RawElem) (name : Span) (count : ℕ) (nodes : List RawNode) (mark : Word) (x : Span) (rest : List Symbol) → EndsElem mark
     → run items (atom_at name count nodes [] (use_.Elem (record { stage = stage; at = place; label = label; left = left; right = Some right }) false)) (at mark x ∷ rest)
     ≡ run items (rule_at stage place label left (Some (right ++ elem.Atom false (record { name = name; args = count; nodes = nodes }) ∷ [])) rule.Behind) (at mark x ∷ rest)
-right_atom_ends items stage place label left right name count nodes mark x rest star = refl
-right_atom_ends items stage place label left right name count nodes mark x rest lolli = refl
-right_atom_ends items stage place label left right name count nodes mark x rest dot = refl
+right_atom_ends items stage place label left right name count nodes mark x rest ends = grind arith
 
 -- an element on the left
 pub left_elem_runs : (outer : Bool) (symbols : List Symbol) (es : List RawElem) → Elem (record { outer = outer; right = false }) symbols es
     → (items : List RawItem) (stage : Option StageSoFar) (place : ℕ) (label : Option Span) (left : List RawElem) (mark : Word) (x : Span) (rest : List Symbol) → is_none stage ≡ outer → EndsElem mark
     → run items (rule_at stage place label left None rule.Before) (symbols ++ at mark x ∷ rest) ≡ run items (rule_at stage place label (left ++ es) None rule.Behind) (at mark x ∷ rest)
-left_elem_runs outer symbols es (elem_unit side open_ close) items stage place label left mark x rest is ends = ap (λ l. run items (rule_at stage place label l None rule.Behind) (at mark x ∷ rest)) (sym (append-nil left))
 left_elem_runs outer symbols es (elem_atom side inner a (atom name args count nodes h)) items stage place label left mark x rest is ends =
     atom_runs args count nodes h items name (use_.Elem (record { stage = stage; at = place; label = label; left = left; right = None }) false) (at mark x ∷ rest) ∙ left_atom_ends items stage place label left false name count nodes mark x rest ends
 left_elem_runs outer symbols es (kept outer' dollar inner a (atom name args count nodes h)) items stage place label left mark x rest is ends =
     atom_runs args count nodes h items name (use_.Elem (record { stage = stage; at = place; label = label; left = left; right = None }) true) (at mark x ∷ rest) ∙ left_atom_ends items stage place label left true name count nodes mark x rest ends
-left_elem_runs outer symbols es given items stage place label left mark x rest is ends = grind arith
+left_elem_runs outer symbols es given items stage place label left mark x rest is ends = grind (arith, append-nil)
 
 -- an element on the right
 pub right_elem_runs : (outer : Bool) (symbols : List Symbol) (es : List RawElem) → Elem (record { outer = outer; right = true }) symbols es
     → (items : List RawItem) (stage : Option StageSoFar) (place : ℕ) (label : Option Span) (left right : List RawElem) (mark : Word) (x : Span) (rest : List Symbol) → is_none stage ≡ outer → EndsElem mark
     → run items (rule_at stage place label left (Some right) rule.Before) (symbols ++ at mark x ∷ rest) ≡ run items (rule_at stage place label left (Some (right ++ es)) rule.Behind) (at mark x ∷ rest)
-right_elem_runs outer symbols es (elem_unit side open_ close) items stage place label left right mark x rest is ends = ap (λ l. run items (rule_at stage place label left (Some l) rule.Behind) (at mark x ∷ rest)) (sym (append-nil right))
 right_elem_runs outer symbols es (elem_atom side inner a (atom name args count nodes h)) items stage place label left right mark x rest is ends =
     atom_runs args count nodes h items name (use_.Elem (record { stage = stage; at = place; label = label; left = left; right = Some right }) false) (at mark x ∷ rest) ∙ right_atom_ends items stage place label left right name count nodes mark x rest ends
-right_elem_runs outer symbols es given items stage place label left right mark x rest is ends = grind arith
+right_elem_runs outer symbols es given items stage place label left right mark x rest is ends = grind (arith, append-nil)
 
 -- what elements and their ending begin with ends the element before them
 pub record EndsSo (symbols : List Symbol) : Type 0 where
@@ -275,51 +264,40 @@ pub record EndsSo (symbols : List Symbol) : Type 0 where
 
 pub stars_end : (side : Side) (symbols : List Symbol) (es : List RawElem) → Stars side symbols es → (mark : Word) (x : Span) (rest : List Symbol) → EndsElem mark → EndsSo (symbols ++ at mark x ∷ rest)
 stars_end side symbols es (no_stars side') mark x rest ends = record { mark = mark; x = x; rest = rest; is = refl; ends = ends }
-stars_end side symbols es (more_stars side' s first others fs gs one' stars) mark x rest ends = record { mark = word.Star; x = s; rest = (first ++ others) ++ at mark x ∷ rest; is = refl; ends = star }
+stars_end side symbols es (more_stars side' s first others fs gs one' stars) mark x rest ends = record { mark = word.Star; x = s; rest = (first ++ others) ++ at mark x ∷ rest; is = refl; ends = inl refl }
 
 -- the elements after one on the left
 pub left_stars_run : (outer : Bool) (symbols : List Symbol) (es : List RawElem) → Stars (record { outer = outer; right = false }) symbols es
     → (items : List RawItem) (stage : Option StageSoFar) (place : ℕ) (label : Option Span) (left : List RawElem) (mark : Word) (x : Span) (rest : List Symbol) → is_none stage ≡ outer → EndsElem mark
     → run items (rule_at stage place label left None rule.Behind) (symbols ++ at mark x ∷ rest) ≡ run items (rule_at stage place label (left ++ es) None rule.Behind) (at mark x ∷ rest)
-left_stars_run outer symbols es (no_stars side) items stage place label left mark x rest is ends = ap (λ l. run items (rule_at stage place label l None rule.Behind) (at mark x ∷ rest)) (sym (append-nil left))
+left_stars_run outer symbols es (no_stars side) items stage place label left mark x rest is ends = rw append-nil refl
 left_stars_run outer symbols es (more_stars side s first others fs gs one' stars) items stage place label left mark x rest is ends =
     let next = stars_end side others gs stars mark x rest ends in
-    ap (run items (rule_at stage place label left None rule.Before)) (append_assoc first others (at mark x ∷ rest) ∙ ap (λ r. first ++ r) next.is)
-    ∙ left_elem_runs outer first fs one' items stage place label left next.mark next.x next.rest is next.ends
-    ∙ ap (run items (rule_at stage place label (left ++ fs) None rule.Behind)) (sym next.is)
-    ∙ left_stars_run outer others gs stars items stage place label (left ++ fs) mark x rest is ends
-    ∙ ap (λ l. run items (rule_at stage place label l None rule.Behind) (at mark x ∷ rest)) (append_assoc left fs gs)
+    grind (arith, append_assoc, next.is, left_elem_runs outer first fs one' items stage place label left next.mark next.x next.rest is next.ends, left_stars_run outer others gs stars items stage place label (left ++ fs) mark x rest is ends)
 
 -- the elements after one on the right
 pub right_stars_run : (outer : Bool) (symbols : List Symbol) (es : List RawElem) → Stars (record { outer = outer; right = true }) symbols es
     → (items : List RawItem) (stage : Option StageSoFar) (place : ℕ) (label : Option Span) (left right : List RawElem) (mark : Word) (x : Span) (rest : List Symbol) → is_none stage ≡ outer → EndsElem mark
     → run items (rule_at stage place label left (Some right) rule.Behind) (symbols ++ at mark x ∷ rest) ≡ run items (rule_at stage place label left (Some (right ++ es)) rule.Behind) (at mark x ∷ rest)
-right_stars_run outer symbols es (no_stars side) items stage place label left right mark x rest is ends = ap (λ l. run items (rule_at stage place label left (Some l) rule.Behind) (at mark x ∷ rest)) (sym (append-nil right))
+right_stars_run outer symbols es (no_stars side) items stage place label left right mark x rest is ends = rw append-nil refl
 right_stars_run outer symbols es (more_stars side s first others fs gs one' stars) items stage place label left right mark x rest is ends =
     let next = stars_end side others gs stars mark x rest ends in
-    ap (run items (rule_at stage place label left (Some right) rule.Before)) (append_assoc first others (at mark x ∷ rest) ∙ ap (λ r. first ++ r) next.is)
-    ∙ right_elem_runs outer first fs one' items stage place label left right next.mark next.x next.rest is next.ends
-    ∙ ap (run items (rule_at stage place label left (Some (right ++ fs)) rule.Behind)) (sym next.is)
-    ∙ right_stars_run outer others gs stars items stage place label left (right ++ fs) mark x rest is ends
-    ∙ ap (λ l. run items (rule_at stage place label left (Some l) rule.Behind) (at mark x ∷ rest)) (append_assoc right fs gs)
+    grind (arith, append_assoc, next.is, right_elem_runs outer first fs one' items stage place label left right next.mark next.x next.rest is next.ends, right_stars_run outer others gs stars items stage place label left (right ++ fs) mark x rest is ends)
 
 -- the whole right side, with its dot
 pub right_side_runs : (outer : Bool) (symbols : List Symbol) (es : List RawElem) → Elems (record { outer = outer; right = true }) symbols es
     → (items : List RawItem) (stage : Option StageSoFar) (place : ℕ) (label : Option Span) (left : List RawElem) (x : Span) (rest : List Symbol) → is_none stage ≡ outer
     → run items (rule_at stage place label left (Some []) rule.Before) (symbols ++ at word.Dot x ∷ rest) ≡ run_from (moved items (rule_ended stage (record { at = place; label = label; left = left; right = es }))) rest
 right_side_runs outer symbols es (elems side first others fs gs one' stars) items stage place label left x rest is =
-    let next = stars_end side others gs stars word.Dot x rest dot in
-    ap (run items (rule_at stage place label left (Some []) rule.Before)) (append_assoc first others (at word.Dot x ∷ rest) ∙ ap (λ r. first ++ r) next.is)
-    ∙ right_elem_runs outer first fs one' items stage place label left [] next.mark next.x next.rest is next.ends
-    ∙ ap (run items (rule_at stage place label left (Some fs) rule.Behind)) (sym next.is)
-    ∙ right_stars_run outer others gs stars items stage place label left fs word.Dot x rest is dot
+    let next = stars_end side others gs stars word.Dot x rest (inr (inr refl)) in
+    grind (arith, append_assoc, next.is, right_elem_runs outer first fs one' items stage place label left [] next.mark next.x next.rest is next.ends, right_stars_run outer others gs stars items stage place label left fs word.Dot x rest is (inr (inr refl)))
 
 -- the sides of a rule whose first element was read
 pub sides_run_behind : (outer : Bool) (stars after : List Symbol) (es right : List RawElem) → Stars (record { outer = outer; right = false }) stars es → Elems (record { outer = outer; right = true }) after right
     → (items : List RawItem) (stage : Option StageSoFar) (place : ℕ) (label : Option Span) (left : List RawElem) (arrow x : Span) (rest : List Symbol) → is_none stage ≡ outer
     → run items (rule_at stage place label left None rule.Behind) (stars ++ at word.Lolli arrow ∷ (after ++ at word.Dot x ∷ rest)) ≡ run_from (moved items (rule_ended stage (record { at = place; label = label; left = left ++ es; right = right }))) rest
 sides_run_behind outer stars after es right h g items stage place label left arrow x rest is =
-    left_stars_run outer stars es h items stage place label left word.Lolli arrow (after ++ at word.Dot x ∷ rest) is lolli
+    left_stars_run outer stars es h items stage place label left word.Lolli arrow (after ++ at word.Dot x ∷ rest) is (inr (inl refl))
     ∙ right_side_runs outer after right g items stage place label (left ++ es) x rest is
 
 -- the sides of a rule
@@ -327,22 +305,15 @@ pub sides_run : (outer : Bool) (symbols : List Symbol) (left right : List RawEle
     → (items : List RawItem) (stage : Option StageSoFar) (place : ℕ) (label : Option Span) (rest : List Symbol) → is_none stage ≡ outer
     → run items (rule_at stage place label [] None rule.Before) (symbols ++ rest) ≡ run_from (moved items (rule_ended stage (record { at = place; label = label; left = left; right = right }))) rest
 sides_run outer symbols left right (sides outer' arrow x before after left' right' (elems side first others fs gs one' stars) g) items stage place label rest is =
-    let end = at word.Lolli arrow ∷ (after ++ at word.Dot x ∷ rest) in
-    let next = stars_end side others gs stars word.Lolli arrow (after ++ at word.Dot x ∷ rest) lolli in
-    ap (run items (rule_at stage place label [] None rule.Before)) (regroup first others (at word.Lolli arrow) after (at word.Dot x) rest ∙ ap (λ r. first ++ r) next.is)
-    ∙ left_elem_runs outer first fs one' items stage place label [] next.mark next.x next.rest is next.ends
-    ∙ ap (run items (rule_at stage place label fs None rule.Behind)) (sym next.is)
-    ∙ sides_run_behind outer others after gs right stars g items stage place label fs arrow x rest is
+    let next = stars_end side others gs stars word.Lolli arrow (after ++ at word.Dot x ∷ rest) (inr (inl refl)) in
+    grind (arith, regroup first others (at word.Lolli arrow) after (at word.Dot x) rest, next.is, left_elem_runs outer first fs one' items stage place label [] next.mark next.x next.rest is next.ends, sides_run_behind outer others after gs right stars g items stage place label fs arrow x rest is)
 
 -- the rules of a stage
 pub rules_run : (symbols : List Symbol) (more : List RawRule) → Rules symbols more → (items : List RawItem) (name : Span) (so_far : List RawRule) (rest : List Symbol)
     → run items (state.Rules (record { name = name; rules = so_far })) (symbols ++ rest) ≡ run items (state.Rules (record { name = name; rules = so_far ++ more })) rest
-rules_run symbols more no_rules items name so_far rest = ap (λ r. run items (state.Rules (record { name = name; rules = r })) rest) (sym (append-nil so_far))
+rules_run symbols more no_rules items name so_far rest = rw append-nil refl
 rules_run symbols more (more_rules a colon inner others left right rules h g) items name so_far rest =
-    ap (run items (rule_at (Some (record { name = name; rules = so_far })) a.from (Some a) [] None rule.Before)) (append_assoc inner others rest)
-    ∙ sides_run false inner left right h items (Some (record { name = name; rules = so_far })) a.from (Some a) (others ++ rest) refl
-    ∙ rules_run others rules g items name (so_far ++ record { at = a.from; label = Some a; left = left; right = right } ∷ []) rest
-    ∙ ap (λ r. run items (state.Rules (record { name = name; rules = r })) rest) (append_assoc so_far (record { at = a.from; label = Some a; left = left; right = right } ∷ []) rules)
+    grind (arith, append_assoc, sides_run false inner left right h items (Some (record { name = name; rules = so_far })) a.from (Some a) (others ++ rest) refl, rules_run others rules g items name (so_far ++ record { at = a.from; label = Some a; left = left; right = right } ∷ []) rest)
 
 -- What stands after an atom, and the ending of each state within an item.
 
@@ -418,11 +389,9 @@ bag_end_of home_ atoms rest i h = grind arith
 
 bag_first_back : (b : BagSoFar) (w : Word) (x : Span) (rest : List Symbol) (i : RawItem) → NextRest (bag_first b w x) rest i → BagFirstRest b.home b.atoms (at w x ∷ rest) i
 bag_first_back b word.Name x rest i up =
-    subst (λ r. BagFirstRest b.home b.atoms (at word.Name x ∷ r) i) (sym up.cut)
-    (bag_some b.home b.atoms (at word.Name x ∷ up.front) (up.atom ∷ []) (bag_atom_elem _ up.atom (whole_atom_of x up.front up.atom up.read)) up.behind i up.after)
+    rw up.cut (bag_some b.home b.atoms (at word.Name x ∷ up.front) (up.atom ∷ []) (bag_atom_elem _ up.atom (whole_atom_of x up.front up.atom up.read)) up.behind i up.after)
 bag_first_back b word.Open x rest i up =
-    subst (λ r. BagFirstRest b.home b.atoms (at word.Open x ∷ r) i) (sym up.cut)
-    (bag_some b.home b.atoms (at word.Open x ∷ at word.Close up.close ∷ []) [] (bag_unit_elem x up.close) up.behind i (subst (λ a. BagMoreRest b.home a up.behind i) (sym (append-nil b.atoms)) up.after))
+    rw up.cut (bag_some b.home b.atoms (at word.Open x ∷ at word.Close up.close ∷ []) [] (bag_unit_elem x up.close) up.behind i (subst (λ a. BagMoreRest b.home a up.behind i) (sym (append-nil b.atoms)) up.after))
 bag_first_back b word.CloseBrace x rest i h = record { front = at word.CloseBrace x ∷ []; behind = rest; more = []; cut = refl; read = empty_bag x; end = subst (λ a. BagEnd b.home a rest i) (sym (append-nil b.atoms)) (bag_end_of b.home b.atoms rest i h) }
 bag_first_back b _ x rest i h = absurd h
 
@@ -514,10 +483,10 @@ atom_back' levels name args nodes used _ x rest i h = absurd h
 
 -- Each state within an item has some ending.
 
--- some symbols with which an item ends, and the item
-pub record Ends (R : List Symbol → RawItem → Type 0) : Type 0 where
+-- some symbols with which an item or an atom ends, and what it is
+pub record Ends {A : Type 0} (R : List Symbol → A → Type 0) : Type 0 where
   pub rest : List Symbol
-  pub i : RawItem
+  pub i : A
   pub read : R rest i
 
 -- some place
@@ -625,22 +594,17 @@ bag_ends b bag.Unit = let e = bag_more_ends b.home b.atoms in record { rest = at
 bag_ends b bag.Behind = bag_more_ends b.home b.atoms
 
 -- an atom ends
-record AtomEnds (R : List Symbol → RawAtom → Type 0) : Type 0 where
-  part : List Symbol
-  a : RawAtom
-  read : R part a
+up_ends : (levels : List Level) (name : Span) (args : ℕ) (nodes : List RawNode) → Ends (Up levels name args nodes)
+up_ends [] name args nodes = record { rest = []; i = record { name = name; args = args + 1 + 0; nodes = nodes ++ [] }; read = record { count = 0; more = []; read = no_args; is = refl } }
+up_ends (Node index count ∷ levels) name args nodes = let e = up_ends levels name args (set_args (nodes ++ []) index (count + 1 + 0)) in record { rest = at word.Close z ∷ e.rest; i = e.i; read = record { front = []; close = z; rest = e.rest; count = 0; more = []; cut = refl; read = no_args; after = e.read } }
+up_ends (Empty ∷ levels) name args nodes = let e = up_ends levels name args nodes in record { rest = at word.Close z ∷ e.rest; i = e.i; read = record { close = z; rest = e.rest; cut = refl; after = e.read } }
+up_ends (Whole ∷ levels) name args nodes = let e = up_ends levels name args nodes in record { rest = at word.Close z ∷ e.rest; i = e.i; read = record { close = z; rest = e.rest; cut = refl; after = e.read } }
 
-up_ends : (levels : List Level) (name : Span) (args : ℕ) (nodes : List RawNode) → AtomEnds (Up levels name args nodes)
-up_ends [] name args nodes = record { part = []; a = record { name = name; args = args + 1 + 0; nodes = nodes ++ [] }; read = record { count = 0; more = []; read = no_args; is = refl } }
-up_ends (Node index count ∷ levels) name args nodes = let e = up_ends levels name args (set_args (nodes ++ []) index (count + 1 + 0)) in record { part = at word.Close z ∷ e.part; a = e.a; read = record { front = []; close = z; rest = e.part; count = 0; more = []; cut = refl; read = no_args; after = e.read } }
-up_ends (Empty ∷ levels) name args nodes = let e = up_ends levels name args nodes in record { part = at word.Close z ∷ e.part; a = e.a; read = record { close = z; rest = e.part; cut = refl; after = e.read } }
-up_ends (Whole ∷ levels) name args nodes = let e = up_ends levels name args nodes in record { part = at word.Close z ∷ e.part; a = e.a; read = record { close = z; rest = e.part; cut = refl; after = e.read } }
-
-atom_ends : (levels : List Level) (name : Span) (args : ℕ) (nodes : List RawNode) → AtomEnds (AtomRest levels name args nodes)
-atom_ends [] name args nodes = record { part = []; a = record { name = name; args = args + 0; nodes = nodes ++ [] }; read = record { count = 0; more = []; read = no_args; is = refl } }
-atom_ends (Node index count ∷ levels) name args nodes = let e = up_ends levels name args (set_args (nodes ++ []) index (count + 0)) in record { part = at word.Close z ∷ e.part; a = e.a; read = record { front = []; close = z; rest = e.part; count = 0; more = []; cut = refl; read = no_args; after = e.read } }
-atom_ends (Empty ∷ levels) name args nodes = let e = up_ends levels name args (nodes ++ node App z 0 ∷ []) in record { part = at word.Name z ∷ at word.Close z ∷ e.part; a = e.a; read = record { front = at word.Name z ∷ []; close = z; rest = e.part; more = node App z 0 ∷ []; cut = refl; read = applied z [] 0 [] no_args; after = e.read } }
-atom_ends (Whole ∷ levels) name args nodes = let e = up_ends levels name args nodes in record { part = at word.Close z ∷ e.part; a = e.a; read = record { close = z; rest = e.part; cut = refl; after = e.read } }
+atom_ends : (levels : List Level) (name : Span) (args : ℕ) (nodes : List RawNode) → Ends (AtomRest levels name args nodes)
+atom_ends [] name args nodes = record { rest = []; i = record { name = name; args = args + 0; nodes = nodes ++ [] }; read = record { count = 0; more = []; read = no_args; is = refl } }
+atom_ends (Node index count ∷ levels) name args nodes = let e = up_ends levels name args (set_args (nodes ++ []) index (count + 0)) in record { rest = at word.Close z ∷ e.rest; i = e.i; read = record { front = []; close = z; rest = e.rest; count = 0; more = []; cut = refl; read = no_args; after = e.read } }
+atom_ends (Empty ∷ levels) name args nodes = let e = up_ends levels name args (nodes ++ node App z 0 ∷ []) in record { rest = at word.Name z ∷ at word.Close z ∷ e.rest; i = e.i; read = record { front = at word.Name z ∷ []; close = z; rest = e.rest; more = node App z 0 ∷ []; cut = refl; read = applied z [] 0 [] no_args; after = e.read } }
+atom_ends (Whole ∷ levels) name args nodes = let e = up_ends levels name args nodes in record { rest = at word.Close z ∷ e.rest; i = e.i; read = record { close = z; rest = e.rest; cut = refl; after = e.read } }
 
 use_ends : (used : Use) (a : RawAtom) → Ends (UseRest used a)
 use_ends (use_.First place label) a = record { rest = at word.Dot z ∷ []; i = head_alone label a; read = alone (record { dot = z; cut = refl; is = refl }) }
@@ -649,7 +613,7 @@ use_ends (use_.Elem r keeps) a = let e = rule_ends (with_elem r (elem.Atom keeps
 use_ends (use_.Bag b) a = let e = bag_more_ends b.home (b.atoms ++ a ∷ []) in record { rest = e.rest; i = e.i; read = e.read }
 
 in_atom_ends : (a : AtomSoFar) (used : Use) → Ends (InAtomRest a used)
-in_atom_ends a used = let e = atom_ends a.levels a.name a.args a.nodes in let f = use_ends used e.a in record { rest = e.part ++ f.rest; i = f.i; read = record { front = e.part; behind = f.rest; atom = e.a; cut = refl; read = e.read; after = f.read } }
+in_atom_ends a used = let e = atom_ends a.levels a.name a.args a.nodes in let f = use_ends used e.i in record { rest = e.rest ++ f.rest; i = f.i; read = record { front = e.rest; behind = f.rest; atom = e.i; cut = refl; read = e.read; after = f.read } }
 
 rule_named_ends : (stage : StageSoFar) (a : Span) → Ends (λ rest i. RulesRest stage (at word.Name a ∷ rest) i)
 rule_named_ends stage a =
@@ -735,9 +699,7 @@ head_item : (before : List Symbol) (label : Option Span) → Label before label 
     → HeadRest place label head behind i → Item (before ++ (front ++ behind)) i
 head_item before label l place front head h behind i at_place build (alone d) = given_item (λ r. before ++ (front ++ r)) (head_alone label head) behind i d build
 head_item before label l place front head h behind i at_place build (goals arrow behind' cut g) =
-    subst (λ j. Item (before ++ (front ++ behind)) j) (sym g.after.is)
-    (subst (λ r. Item (before ++ (front ++ r)) (item.Clause label head (g.goal ∷ g.after.more))) (sym (cut ∙ ap (λ r. at word.Back arrow ∷ r) (g.cut ∙ ap (λ r. g.front ++ r) g.after.cut)))
-    (clause arrow g.after.dot before front g.front g.after.front label head g.goal g.after.more l h g.read g.after.read))
+    rw (g.after.is, cut, g.cut, g.after.cut) (clause arrow g.after.dot before front g.front g.after.front label head g.goal g.after.more l h g.read g.after.read)
 head_item before label l place front head h behind i at_place build (with_side up) =
     outer_item before label l place (front ++ behind) i at_place (elem_back_left None front (elem.Atom false head ∷ []) (elem_atom _ front head h) place label [] behind i up)
 
@@ -754,8 +716,7 @@ labelled_back a word.Pred x rest i h c = given_item (λ r. at word.Name a ∷ at
 labelled_back a word.Bwd x rest i h c = given_item (λ r. at word.Name a ∷ at word.Colon c ∷ at word.Bwd x ∷ r) (item.Pred a [] Back) rest i h (λ dot. back_pred a c x dot [])
 labelled_back a word.Fact x rest i h c = given_item (λ r. at word.Name a ∷ at word.Colon c ∷ at word.Fact x ∷ r) (item.Pred a [] Fact) rest i h (λ dot. fact_pred a c x dot [])
 labelled_back a word.Name x rest i up c =
-    subst (λ r. Item (at word.Name a ∷ at word.Colon c ∷ at word.Name x ∷ r) i) (sym up.cut)
-    (head_item (at word.Name a ∷ at word.Colon c ∷ []) (Some a) (a_label a c) a.from (at word.Name x ∷ up.front) up.atom (whole_atom_of x up.front up.atom up.read) up.behind i refl (labelled_alone a c (at word.Name x ∷ up.front) up.atom (whole_atom_of x up.front up.atom up.read)) up.after)
+    rw up.cut (head_item (at word.Name a ∷ at word.Colon c ∷ []) (Some a) (a_label a c) a.from (at word.Name x ∷ up.front) up.atom (whole_atom_of x up.front up.atom up.read) up.behind i refl (labelled_alone a c (at word.Name x ∷ up.front) up.atom (whole_atom_of x up.front up.atom up.read)) up.after)
 labelled_back a w x rest i h c = outer_item (at word.Name a ∷ at word.Colon c ∷ []) (Some a) (a_label a c) a.from (at w x ∷ rest) i refl (before_elem_back None None a.from (Some a) [] w x rest i h)
 
 -- names, with one more
@@ -822,8 +783,7 @@ stage_named_back place a w x rest i h s is = grind (arith, stage_outer, behind_l
 
 stage_equals_back : (a : Span) (w : Word) (x : Span) (rest : List Symbol) (i : RawItem) → NextRest (stage_equals a w) rest i → (s e : Span) → Item (at word.Stage s ∷ at word.Name a ∷ at word.Equals e ∷ at w x ∷ rest) i
 stage_equals_back a word.OpenBrace x rest i up s e =
-    subst (λ j. Item (at word.Stage s ∷ at word.Name a ∷ at word.Equals e ∷ at word.OpenBrace x ∷ rest) j) (sym up.is)
-    (subst (λ r. Item (at word.Stage s ∷ at word.Name a ∷ at word.Equals e ∷ at word.OpenBrace x ∷ r) (item.Stage a up.more)) (sym up.cut) (stage_item s a e x up.close up.front up.ending up.more up.read up.may_dot))
+    rw (up.is, up.cut) (stage_item s a e x up.close up.front up.ending up.more up.read up.may_dot)
 stage_equals_back a _ x rest i h s e = absurd h
 
 -- after `context`
@@ -835,8 +795,7 @@ context_named_back a w x rest i h c = grind arith
 
 context_equals_back : (a : Span) (w : Word) (x : Span) (rest : List Symbol) (i : RawItem) → NextRest (context_equals a w) rest i → (c e : Span) → Item (at word.Context c ∷ at word.Name a ∷ at word.Equals e ∷ at w x ∷ rest) i
 context_equals_back a word.OpenBrace x rest i up c e =
-    subst (λ j. Item (at word.Context c ∷ at word.Name a ∷ at word.Equals e ∷ at word.OpenBrace x ∷ rest) j) (sym up.end.1)
-    (subst (λ r. Item (at word.Context c ∷ at word.Name a ∷ at word.Equals e ∷ at word.OpenBrace x ∷ r) (item.Context a up.more)) (sym up.cut) (context c a e x up.front up.behind up.more up.read up.end.0))
+    rw (up.end.1, up.cut) (context c a e x up.front up.behind up.more up.read up.end.0)
 context_equals_back a _ x rest i h c e = absurd h
 
 -- after a directive
@@ -866,30 +825,9 @@ trace_stage_back place limit a _ x rest i h d m is l = absurd h
 
 -- where nothing but names and places are kept
 plain_back : (p : Plain) (w : Word) (x : Span) (rest : List Symbol) (i : RawItem) → NextRest (step_plain p w x) rest i → PlainRest p (at w x ∷ rest) i
-plain_back plain.Ended w x rest i h = tt
-plain_back plain.Top w x rest i h = begin_back w x rest i h
-plain_back (plain.Labelled a) w x rest i h = labelled_back a w x rest i h
-plain_back (plain.Blank place) w x rest i h = blank_back place w x rest i h
-plain_back (plain.StageWord place) w x rest i h = stage_word_back place w x rest i h
-plain_back (plain.StageNamed place a) w x rest i h = stage_named_back place a w x rest i h
-plain_back (plain.StageEquals a) w x rest i h = stage_equals_back a w x rest i h
-plain_back plain.ContextWord w x rest i h = context_word_back w x rest i h
-plain_back (plain.ContextNamed a) w x rest i h = context_named_back a w x rest i h
-plain_back (plain.ContextEquals a) w x rest i h = context_equals_back a w x rest i h
-plain_back plain.InteractiveWord w x rest i h = interactive_back w x rest i h
-plain_back (plain.TraceWord place) w x rest i h = trace_word_back place w x rest i h
-plain_back (plain.TraceLimit place limit) w x rest i h = trace_limit_back place limit w x rest i h
-plain_back (plain.TraceStage place limit a) w x rest i h = trace_stage_back place limit a w x rest i h
+plain_back p w x rest i h = grind (arith, begin_back, labelled_back, blank_back, stage_word_back, stage_named_back, stage_equals_back, context_word_back, context_named_back, context_equals_back, interactive_back, trace_word_back, trace_limit_back, trace_stage_back)
 
 -- what may stand after a symbol may, with it, stand after the state before it
 pub step_back : (s : State) (w : Word) (x : Span) (rest : List Symbol) (i : RawItem) → NextRest (step s w x) rest i → Rest s (at w x ∷ rest) i
-step_back (state.Plain p) w x rest i h = plain_back p w x rest i h
-step_back (state.Names name args) w x rest i h = names_back name args w x rest i h
-step_back (state.Declared name args) w x rest i h = declared_back name args w x rest i h
-step_back (state.Ending given) w x rest i h = ending_back given w x rest i h
-step_back (state.Rules stage) w x rest i h = rules_back stage w x rest i h
-step_back (state.RuleNamed stage a) w x rest i h = rule_named_back stage a w x rest i h
-step_back (state.Rule r place) w x rest i h = rule_back r place w x rest i h
-step_back (state.Goal c) w x rest i h = before_goal_back c w x rest i h
-step_back (state.Bag b place) w x rest i h = bag_back b place w x rest i h
 step_back (state.Atom a used) w x rest i h = atom_back' a.levels a.name a.args a.nodes used w x rest i h
+step_back s w x rest i h = grind (arith, plain_back, names_back, declared_back, ending_back, rules_back, rule_named_back, rule_back, before_goal_back, bag_back)

@@ -2,7 +2,6 @@
 use Rattle.std.proofs.Common.{◌≡◌, ℕ, ◌+◌, ◌<◌, Bool, true, false, List, [], ◌∷◌, ◌++◌, Option, None, Some, refl, sym, ap, ◌∙◌, arith, append_assoc, length, subst, ◌⊎◌, ◌≤◌, inl, inr, ⊎_elim, zero, suc, get_or, take, drop, length-append, take-append-drop}
 use Rattle.std.proofs.lemmas.Bool.{ne_eqb, false≢true, cases_eq}
 use Rattle.std.proofs.lemmas.List.{append-nil, drop_more, length-map, take_all, take_more}
-use Rattle.cep_base.specs.declared.kind.PredKind.TheVariants.{Linear, Back, Fact}
 use Rattle.cep_parse.specs.declared.raw.Span.{Span}
 use Rattle.cep_parse.specs.declared.raw.RawAtom.{RawAtom}
 use Rattle.cep_parse.specs.declared.raw.RawElem.{RawElem}
@@ -13,7 +12,7 @@ use Rattle.cep_parse.specs.declared.symbol.Word.{Word}
 use Rattle.cep_parse.specs.declared.state.BagHome.{BagHome}
 use Rattle.cep_parse.specs.declared.state.BagPlace.{BagPlace}
 use Rattle.cep_parse.specs.declared.state.State.{State}
-use Rattle.cep_parse.specs.Grammar.{at, names, place_of, Args, Atom, Side, Elem, Stars, Goals, BagElem, BagMore, Bag, MayDot, Limit, Item, File}
+use Rattle.cep_parse.specs.Grammar.{at, names, place_of, Args, Atom, Side, Elem, Stars, Goals, BagElem, BagMore, Bag, MayDot, Limit, Item, File, IsOneOf}
 use Rattle.cep_parse.specs.Grammar.Atom.{atom}
 use Rattle.cep_parse.specs.Grammar.Elem.{atom as elem_atom, kept, stage as elem_stage}
 use Rattle.cep_parse.specs.Grammar.Stars.{none as no_stars, more as more_stars}
@@ -28,9 +27,7 @@ use Rattle.cep_parse.specs.Grammar.Label.{none as no_label, named as a_label}
 use Rattle.cep_parse.specs.Grammar.Item.{pred, back as back_pred, fact as fact_pred, colon, bare_clause, labelled, clause, outer, unnamed, stage as stage_item, context, trace_named, trace_listed, interactive}
 use Rattle.cep_parse.specs.Machine.{atom_begun, bag_ended, step, is_within, begin}
 use Rattle.cep_parse.proofs.BackAtoms.{moved, run, run_from, atom_at, state_behind, names_run, StandsBehind, Config, run_append, run_stopped, Rest, NextRest}
-use Rattle.cep_parse.proofs.BackAtoms.StandsBehind.{dot as stands_dot, back as stands_back, star as stands_star, lolli as stands_lolli}
 use Rattle.cep_parse.proofs.BackItems.{atom_runs, rule_at, EndsElem, regroup, sides_run, sides_run_behind, rules_run, begin_back, step_back, state_ends}
-use Rattle.cep_parse.proofs.BackItems.EndsElem.{star as ends_star, lolli as ends_lolli}
 use Rattle.cep_parse.specs.Grammar.File.{none as no_items, more as more_items}
 use Rattle.std.specs.Prelude.{Result, Ok, Err}
 use Rattle.cep_lex.specs.declared.token.Token.{Token}
@@ -63,48 +60,34 @@ goals_run : (symbols : List Symbol) (goals : List RawAtom) → Goals symbols goa
 goals_run symbols goals no_goals items label head so_far name count nodes x rest = refl
 goals_run symbols goals (more_goals mark a first others goal goals' is_one (atom b inner count' nodes' args) h) items label head so_far name count nodes x rest =
     let so_far' = so_far ++ record { name = name; args = count; nodes = nodes } ∷ [] in
-    ap (run items (state.Atom (atom_begun b) (use_.Goal (record { label = label; head = head; goals = so_far' })))) (append_assoc inner others (at word.Dot x ∷ rest))
-    ∙ atom_runs inner count' nodes' args items b (use_.Goal (record { label = label; head = head; goals = so_far' })) (others ++ at word.Dot x ∷ rest)
-    ∙ goals_run others goals' h items label head so_far' b count' nodes' x rest
-    ∙ ap (λ gs. run (items ++ item.Clause label head gs ∷ []) (state.Plain plain.Top) rest) (append_assoc so_far (record { name = name; args = count; nodes = nodes } ∷ []) (record { name = b; args = count'; nodes = nodes' } ∷ goals'))
+    grind (arith, append_assoc, atom_runs inner count' nodes' args items b (use_.Goal (record { label = label; head = head; goals = so_far' })) (others ++ at word.Dot x ∷ rest), goals_run others goals' h items label head so_far' b count' nodes' x rest)
 goals_run symbols goals (more_goals mark a first others goal goals' is_other (atom b inner count' nodes' args) h) items label head so_far name count nodes x rest =
     let so_far' = so_far ++ record { name = name; args = count; nodes = nodes } ∷ [] in
-    ap (run items (state.Atom (atom_begun b) (use_.Goal (record { label = label; head = head; goals = so_far' })))) (append_assoc inner others (at word.Dot x ∷ rest))
-    ∙ atom_runs inner count' nodes' args items b (use_.Goal (record { label = label; head = head; goals = so_far' })) (others ++ at word.Dot x ∷ rest)
-    ∙ goals_run others goals' h items label head so_far' b count' nodes' x rest
-    ∙ ap (λ gs. run (items ++ item.Clause label head gs ∷ []) (state.Plain plain.Top) rest) (append_assoc so_far (record { name = name; args = count; nodes = nodes } ∷ []) (record { name = b; args = count'; nodes = nodes' } ∷ goals'))
+    grind (arith, append_assoc, atom_runs inner count' nodes' args items b (use_.Goal (record { label = label; head = head; goals = so_far' })) (others ++ at word.Dot x ∷ rest), goals_run others goals' h items label head so_far' b count' nodes' x rest)
 
 -- a bag in reading, by its parts
 abbrev bag_at : BagHome → List RawAtom → BagPlace → State
 bag_at home_ atoms place = state.Bag (record { home = home_; atoms = atoms }) place
 
 -- where an element of a bag is to come
-data Awaits : BagPlace → Type 0 where
-  first : Awaits bag.First
-  awaits_next : Awaits bag.Next
+abbrev Awaits : BagPlace → Type 0
+Awaits place = (place ≡ bag.First) ⊎ (place ≡ bag.Next)
 
 -- what stands after an element of a bag
-data EndsBagElem : Word → Type 0 where
-  comma : EndsBagElem word.Comma
-  joined : EndsBagElem word.Star
-  brace : EndsBagElem word.CloseBrace
+abbrev EndsBagElem : Word → Type 0
+EndsBagElem mark = (mark ≡ word.Comma) ⊎ (mark ≡ word.Star) ⊎ (mark ≡ word.CloseBrace)
 
 -- after an atom of a bag
 bag_atom_ends : (items : List RawItem) (home_ : BagHome) (atoms : List RawAtom) (name : Span) (count : ℕ) (nodes : List RawNode) (mark : Word) (x : Span) (rest : List Symbol) → EndsBagElem mark
     → run items (atom_at name count nodes [] (use_.Bag (record { home = home_; atoms = atoms }))) (at mark x ∷ rest) ≡ run items (bag_at home_ (atoms ++ record { name = name; args = count; nodes = nodes } ∷ []) bag.Behind) (at mark x ∷ rest)
-bag_atom_ends items home_ atoms name count nodes mark x rest comma = refl
-bag_atom_ends items home_ atoms name count nodes mark x rest joined = refl
-bag_atom_ends items home_ atoms name count nodes mark x rest brace = refl
+bag_atom_ends items home_ atoms name count nodes mark x rest ends = grind arith
 
 -- an element of a bag
 bag_elem_runs : (symbols : List Symbol) (es : List RawAtom) → BagElem symbols es → (items : List RawItem) (home_ : BagHome) (atoms : List RawAtom) (place : BagPlace) (mark : Word) (x : Span) (rest : List Symbol) → Awaits place → EndsBagElem mark
     → run items (bag_at home_ atoms place) (symbols ++ at mark x ∷ rest) ≡ run items (bag_at home_ (atoms ++ es) bag.Behind) (at mark x ∷ rest)
-bag_elem_runs symbols es (bag_unit open_ close) items home_ atoms place mark x rest first ends = ap (λ a. run items (bag_at home_ a bag.Behind) (at mark x ∷ rest)) (sym (append-nil atoms))
-bag_elem_runs symbols es (bag_unit open_ close) items home_ atoms place mark x rest awaits_next ends = ap (λ a. run items (bag_at home_ a bag.Behind) (at mark x ∷ rest)) (sym (append-nil atoms))
-bag_elem_runs symbols es (bag_atom inner a (atom name args count nodes h)) items home_ atoms place mark x rest first ends =
-    atom_runs args count nodes h items name (use_.Bag (record { home = home_; atoms = atoms })) (at mark x ∷ rest) ∙ bag_atom_ends items home_ atoms name count nodes mark x rest ends
-bag_elem_runs symbols es (bag_atom inner a (atom name args count nodes h)) items home_ atoms place mark x rest awaits_next ends =
-    atom_runs args count nodes h items name (use_.Bag (record { home = home_; atoms = atoms })) (at mark x ∷ rest) ∙ bag_atom_ends items home_ atoms name count nodes mark x rest ends
+bag_elem_runs symbols es (bag_unit open_ close) items home_ atoms place mark x rest awaits ends = grind (arith, append-nil)
+bag_elem_runs symbols es (bag_atom inner a (atom name args count nodes h)) items home_ atoms place mark x rest awaits ends =
+    grind (arith, atom_runs args count nodes h items name (use_.Bag (record { home = home_; atoms = atoms })) (at mark x ∷ rest), bag_atom_ends items home_ atoms name count nodes mark x rest ends)
 
 -- what the further elements of a bag begin with
 record EndsBagSo (symbols : List Symbol) : Type 0 where
@@ -114,29 +97,24 @@ record EndsBagSo (symbols : List Symbol) : Type 0 where
   is : symbols ≡ at mark x ∷ rest
   ends : EndsBagElem mark
 
+bag_mark : (mark : Word) → IsOneOf word.Comma word.Star mark → EndsBagElem mark
+bag_mark mark is_one = inl refl
+bag_mark mark is_other = inr (inl refl)
+
 atoms_end : (symbols : List Symbol) (es : List RawAtom) → BagMore symbols es → (x : Span) (rest : List Symbol) → EndsBagSo (symbols ++ at word.CloseBrace x ∷ rest)
-atoms_end symbols es no_atoms x rest = record { mark = word.CloseBrace; x = x; rest = rest; is = refl; ends = brace }
-atoms_end symbols es (more_atoms mark a first' others fs gs is_one h g) x rest = record { mark = word.Comma; x = a; rest = (first' ++ others) ++ at word.CloseBrace x ∷ rest; is = refl; ends = comma }
-atoms_end symbols es (more_atoms mark a first' others fs gs is_other h g) x rest = record { mark = word.Star; x = a; rest = (first' ++ others) ++ at word.CloseBrace x ∷ rest; is = refl; ends = joined }
+atoms_end symbols es no_atoms x rest = record { mark = word.CloseBrace; x = x; rest = rest; is = refl; ends = grind arith }
+atoms_end symbols es (more_atoms mark a first' others fs gs mark_is h g) x rest = record { mark = mark; x = a; rest = (first' ++ others) ++ at word.CloseBrace x ∷ rest; is = refl; ends = bag_mark mark mark_is }
 
 -- the further elements of a bag, and its brace
 bag_more_runs : (symbols : List Symbol) (es : List RawAtom) → BagMore symbols es → (items : List RawItem) (home_ : BagHome) (atoms : List RawAtom) (x : Span) (rest : List Symbol)
     → run items (bag_at home_ atoms bag.Behind) (symbols ++ at word.CloseBrace x ∷ rest) ≡ run_from (moved items (bag_ended home_ (atoms ++ es))) rest
-bag_more_runs symbols es no_atoms items home_ atoms x rest = ap (λ a. run_from (moved items (bag_ended home_ a)) rest) (sym (append-nil atoms))
+bag_more_runs symbols es no_atoms items home_ atoms x rest = grind (arith, append-nil)
 bag_more_runs symbols es (more_atoms mark a first' others fs gs is_one h g) items home_ atoms x rest =
     let end = atoms_end others gs g x rest in
-    ap (run items (bag_at home_ atoms bag.Next)) (append_assoc first' others (at word.CloseBrace x ∷ rest) ∙ ap (λ r. first' ++ r) end.is)
-    ∙ bag_elem_runs first' fs h items home_ atoms bag.Next end.mark end.x end.rest awaits_next end.ends
-    ∙ ap (run items (bag_at home_ (atoms ++ fs) bag.Behind)) (sym end.is)
-    ∙ bag_more_runs others gs g items home_ (atoms ++ fs) x rest
-    ∙ ap (λ a. run_from (moved items (bag_ended home_ a)) rest) (append_assoc atoms fs gs)
+    grind (arith, append_assoc, end.is, bag_elem_runs first' fs h items home_ atoms bag.Next end.mark end.x end.rest (inr refl) end.ends, bag_more_runs others gs g items home_ (atoms ++ fs) x rest)
 bag_more_runs symbols es (more_atoms mark a first' others fs gs is_other h g) items home_ atoms x rest =
     let end = atoms_end others gs g x rest in
-    ap (run items (bag_at home_ atoms bag.Next)) (append_assoc first' others (at word.CloseBrace x ∷ rest) ∙ ap (λ r. first' ++ r) end.is)
-    ∙ bag_elem_runs first' fs h items home_ atoms bag.Next end.mark end.x end.rest awaits_next end.ends
-    ∙ ap (run items (bag_at home_ (atoms ++ fs) bag.Behind)) (sym end.is)
-    ∙ bag_more_runs others gs g items home_ (atoms ++ fs) x rest
-    ∙ ap (λ a. run_from (moved items (bag_ended home_ a)) rest) (append_assoc atoms fs gs)
+    grind (arith, append_assoc, end.is, bag_elem_runs first' fs h items home_ atoms bag.Next end.mark end.x end.rest (inr refl) end.ends, bag_more_runs others gs g items home_ (atoms ++ fs) x rest)
 
 -- a bag after its opening brace
 bag_runs : (symbols : List Symbol) (es : List RawAtom) → Bag symbols es → (items : List RawItem) (home_ : BagHome) (rest : List Symbol)
@@ -144,57 +122,41 @@ bag_runs : (symbols : List Symbol) (es : List RawAtom) → Bag symbols es → (i
 bag_runs symbols es (empty_bag close) items home_ rest = refl
 bag_runs symbols es (some_bag close first' others fs gs h g) items home_ rest =
     let end = atoms_end others gs g close rest in
-    ap (run items (bag_at home_ [] bag.First)) (append_assoc first' (others ++ at word.CloseBrace close ∷ []) rest ∙ ap (λ r. first' ++ r) (append_assoc others (at word.CloseBrace close ∷ []) rest) ∙ ap (λ r. first' ++ r) end.is)
-    ∙ bag_elem_runs first' fs h items home_ [] bag.First end.mark end.x end.rest first end.ends
-    ∙ ap (run items (bag_at home_ fs bag.Behind)) (sym end.is)
-    ∙ bag_more_runs others gs g items home_ fs close rest
+    grind (arith, append_assoc, end.is, bag_elem_runs first' fs h items home_ [] bag.First end.mark end.x end.rest (inl refl) end.ends, bag_more_runs others gs g items home_ fs close rest)
 
 -- names of a declaration
 decl_names_run : (more : List Span) (items : List RawItem) (name : Span) (so_far : List Span) (rest : List Symbol)
     → run items (state.Names name so_far) (names more ++ rest) ≡ run items (state.Names name (so_far ++ more)) rest
-decl_names_run [] items name so_far rest = ap (λ n. run items (state.Names name n) rest) (sym (append-nil so_far))
-decl_names_run (a ∷ more) items name so_far rest = decl_names_run more items name (so_far ++ a ∷ []) rest ∙ ap (λ n. run items (state.Names name n) rest) (append_assoc so_far (a ∷ []) more)
+decl_names_run [] items name so_far rest = rw append-nil refl
+decl_names_run (a ∷ more) items name so_far rest = grind (arith, append_assoc so_far (a ∷ []) more, decl_names_run more items name (so_far ++ a ∷ []) rest)
 
 -- after the name of a first atom: its arguments, and what stands after them
 head_runs : (symbols : List Symbol) (count : ℕ) (nodes : List RawNode) → Args symbols count nodes → (items : List RawItem) (name : Span) (mark : Word) (x : Span) (rest : List Symbol) → StandsBehind mark
     → run items (state.Names name []) (symbols ++ at mark x ∷ rest) ≡ run items (atom_at name count nodes [] (use_.First name.from None)) (at mark x ∷ rest)
-head_runs symbols count nodes h items name mark x rest stands =
-    names_run symbols count nodes h items name [] mark x rest stands ∙ (let e : 0 + count ≡ count = omega arith in λ i. run items (atom_at name (e i) nodes [] (use_.First name.from None)) (at mark x ∷ rest))
+head_runs symbols count nodes h items name mark x rest stands = grind (arith, names_run symbols count nodes h items name [] mark x rest stands)
 
 -- what stands after the first element of an outer rule
-pub data EndsFirst : Word → Type 0 where
-  first_star : EndsFirst word.Star
-  first_lolli : EndsFirst word.Lolli
-
-stands_of : (mark : Word) → EndsFirst mark → StandsBehind mark
-stands_of mark first_star = stands_star
-stands_of mark first_lolli = stands_lolli
+abbrev pub EndsFirst : Word → Type 0
+EndsFirst mark = (mark ≡ word.Star) ⊎ (mark ≡ word.Lolli)
 
 -- the first atom of an outer rule is its first element
 head_is_elem : (items : List RawItem) (place : ℕ) (label : Option Span) (name : Span) (count : ℕ) (nodes : List RawNode) (mark : Word) (x : Span) (rest : List Symbol) → EndsFirst mark
     → run items (atom_at name count nodes [] (use_.First place label)) (at mark x ∷ rest)
     ≡ run items (rule_at None place label (elem.Atom false (record { name = name; args = count; nodes = nodes }) ∷ []) None rule.Behind) (at mark x ∷ rest)
-head_is_elem items place label name count nodes mark x rest first_star = refl
-head_is_elem items place label name count nodes mark x rest first_lolli = refl
+head_is_elem items place label name count nodes mark x rest ends = grind arith
 
 -- a stage named by itself is one too
 stage_is_elem : (items : List RawItem) (place : ℕ) (a : Span) (mark : Word) (x : Span) (rest : List Symbol) → EndsFirst mark
     → run items (state.Plain (plain.StageNamed place a)) (at mark x ∷ rest) ≡ run items (rule_at None place None (elem.Stage a ∷ []) None rule.Behind) (at mark x ∷ rest)
-stage_is_elem items place a mark x rest first_star = refl
-stage_is_elem items place a mark x rest first_lolli = refl
-
--- it ends an element too
-ends_elem : (mark : Word) → EndsFirst mark → EndsElem mark
-ends_elem mark first_star = ends_star
-ends_elem mark first_lolli = ends_lolli
+stage_is_elem items place a mark x rest ends = grind arith
 
 -- the first element of an outer rule without a label
 pub first_elem_runs : (symbols : List Symbol) (es : List RawElem) → Elem (record { outer = true; right = false }) symbols es
     → (items : List RawItem) (mark : Word) (x : Span) (rest : List Symbol) → EndsFirst mark
     → run items (state.Plain plain.Top) (symbols ++ at mark x ∷ rest) ≡ run items (rule_at None (place_of symbols) None es None rule.Behind) (at mark x ∷ rest)
-first_elem_runs symbols es (elem_atom side inner a (atom name args count nodes h)) items mark x rest ends = rw (head_runs args count nodes h items name mark x rest (stands_of mark ends), head_is_elem items name.from None name count nodes mark x rest ends)
+first_elem_runs symbols es (elem_atom side inner a (atom name args count nodes h)) items mark x rest ends = rw (head_runs args count nodes h items name mark x rest (grind arith), head_is_elem items name.from None name count nodes mark x rest ends)
 first_elem_runs symbols es (kept outer' dollar inner a (atom name args count nodes h)) items mark x rest ends =
-    rules.left_elem_runs true _ _ (kept true dollar inner a (atom name args count nodes h)) items None dollar.from None [] mark x rest refl (ends_elem mark ends)
+    rules.left_elem_runs true _ _ (kept true dollar inner a (atom name args count nodes h)) items None dollar.from None [] mark x rest refl (grind arith)
 first_elem_runs symbols es (elem_stage right stage_ a) items mark x rest ends = stage_is_elem items stage_.from a mark x rest ends
 first_elem_runs symbols es given items mark x rest ends = refl
 
@@ -205,7 +167,7 @@ labelled_elem_runs : (symbols : List Symbol) (es : List RawElem) → Elem (recor
 labelled_elem_runs symbols es (elem_atom side inner b (atom name args count nodes h)) items a mark x rest ends =
     atom_runs args count nodes h items name (use_.First a.from (Some a)) (at mark x ∷ rest) ∙ head_is_elem items a.from (Some a) name count nodes mark x rest ends
 labelled_elem_runs symbols es (kept outer' dollar inner b (atom name args count nodes h)) items a mark x rest ends =
-    rules.left_elem_runs true _ _ (kept true dollar inner b (atom name args count nodes h)) items None a.from (Some a) [] mark x rest refl (ends_elem mark ends)
+    rules.left_elem_runs true _ _ (kept true dollar inner b (atom name args count nodes h)) items None a.from (Some a) [] mark x rest refl (grind arith)
 labelled_elem_runs symbols es given items a mark x rest ends = refl
 
 -- what the elements after the first of a left side begin with
@@ -217,8 +179,8 @@ record EndsFirstSo (symbols : List Symbol) : Type 0 where
   ends : EndsFirst mark
 
 left_end : (side : Side) (symbols : List Symbol) (es : List RawElem) → Stars side symbols es → (x : Span) (rest : List Symbol) → EndsFirstSo (symbols ++ at word.Lolli x ∷ rest)
-left_end side symbols es (no_stars side') x rest = record { mark = word.Lolli; x = x; rest = rest; is = refl; ends = first_lolli }
-left_end side symbols es (more_stars side' s first' others fs gs one' stars) x rest = record { mark = word.Star; x = s; rest = (first' ++ others) ++ at word.Lolli x ∷ rest; is = refl; ends = first_star }
+left_end side symbols es (no_stars side') x rest = record { mark = word.Lolli; x = x; rest = rest; is = refl; ends = inr refl }
+left_end side symbols es (more_stars side' s first' others fs gs one' stars) x rest = record { mark = word.Star; x = s; rest = (first' ++ others) ++ at word.Lolli x ∷ rest; is = refl; ends = inl refl }
 
 -- the place of the first element is that of the side
 place_first : (side : Side) (symbols : List Symbol) (es : List RawElem) (others rest : List Symbol) → Elem side symbols es → place_of ((symbols ++ others) ++ rest) ≡ place_of symbols
@@ -234,21 +196,8 @@ dotted : (symbols : List Symbol) (i : RawItem) (items : List RawItem) (rest : Li
 dotted symbols i items rest is = record { may_dot = false; is = is }
 
 -- declarations with names
-pred_runs : (a colon_ p x : Span) (args : List Span) (items : List RawItem) (rest : List Symbol)
-    → run items (state.Names a args) (at word.Colon colon_ ∷ at word.Pred p ∷ at word.Dot x ∷ rest) ≡ run (items ++ item.Pred a args Linear ∷ []) (state.Plain plain.Top) rest
-pred_runs a colon_ p x args items rest = grind arith
-
-bwd_runs : (a colon_ p x : Span) (args : List Span) (items : List RawItem) (rest : List Symbol)
-    → run items (state.Names a args) (at word.Colon colon_ ∷ at word.Bwd p ∷ at word.Dot x ∷ rest) ≡ run (items ++ item.Pred a args Back ∷ []) (state.Plain plain.Top) rest
-bwd_runs a colon_ p x args items rest = grind arith
-
-fact_runs : (a colon_ p x : Span) (args : List Span) (items : List RawItem) (rest : List Symbol)
-    → run items (state.Names a args) (at word.Colon colon_ ∷ at word.Fact p ∷ at word.Dot x ∷ rest) ≡ run (items ++ item.Pred a args Fact ∷ []) (state.Plain plain.Top) rest
-fact_runs a colon_ p x args items rest = grind arith
-
-colon_runs : (a colon_ b x : Span) (args : List Span) (items : List RawItem) (rest : List Symbol)
-    → run items (state.Names a args) (at word.Colon colon_ ∷ at word.Name b ∷ at word.Dot x ∷ rest) ≡ run (items ++ item.Colon a args b ∷ []) (state.Plain plain.Top) rest
-colon_runs a colon_ b x args items rest = grind arith
+decl_runs : (a : Span) (args : List Span) (behind : List Symbol) (i : RawItem) (items : List RawItem) (rest : List Symbol) → run items (state.Names a args) (behind ++ rest) ≡ run (items ++ i ∷ []) (state.Plain plain.Top) rest → RunsTo (at word.Name a ∷ (names args ++ behind)) i items rest
+decl_runs a args behind i items rest is = dotted _ i items rest (grind (arith, append_assoc (names args) behind rest, decl_names_run args items a [] (behind ++ rest)))
 
 -- a dot that may stand after an item
 may_dot_runs : (ending : List Symbol) → MayDot ending → (items : List RawItem) (rest : List Symbol)
@@ -279,36 +228,29 @@ labelled_dot items a name count nodes x rest some = rw (ne_eqb count 0 (λ e. ab
 
 -- an item
 pub item_runs : (symbols : List Symbol) (i : RawItem) → Item symbols i → (items : List RawItem) (rest : List Symbol) → RunsTo symbols i items rest
-item_runs symbols i (pred a colon_ p x args) items rest = dotted _ _ items rest (ap (run items (state.Names a [])) (append_assoc (names args) _ rest) ∙ decl_names_run args items a [] _ ∙ pred_runs a colon_ p x args items rest)
-item_runs symbols i (back_pred a colon_ p x args) items rest = dotted _ _ items rest (ap (run items (state.Names a [])) (append_assoc (names args) _ rest) ∙ decl_names_run args items a [] _ ∙ bwd_runs a colon_ p x args items rest)
-item_runs symbols i (fact_pred a colon_ p x args) items rest = dotted _ _ items rest (ap (run items (state.Names a [])) (append_assoc (names args) _ rest) ∙ decl_names_run args items a [] _ ∙ fact_runs a colon_ p x args items rest)
-item_runs symbols i (colon a colon_ b x args) items rest = dotted _ _ items rest (ap (run items (state.Names a [])) (append_assoc (names args) _ rest) ∙ decl_names_run args items a [] _ ∙ colon_runs a colon_ b x args items rest)
+item_runs symbols i (pred a colon_ p x args) items rest = decl_runs a args _ _ items rest (grind arith)
+item_runs symbols i (back_pred a colon_ p x args) items rest = decl_runs a args _ _ items rest (grind arith)
+item_runs symbols i (fact_pred a colon_ p x args) items rest = decl_runs a args _ _ items rest (grind arith)
+item_runs symbols i (colon a colon_ b x args) items rest = decl_runs a args _ _ items rest (grind arith)
 item_runs symbols i (bare_clause x inner head (atom name args count nodes h)) items rest =
-    dotted _ _ items rest (ap (run items (state.Names name [])) (append_assoc args (at word.Dot x ∷ []) rest) ∙ head_runs args count nodes h items name word.Dot x rest stands_dot)
+    dotted _ _ items rest (ap (run items (state.Names name [])) (append_assoc args (at word.Dot x ∷ []) rest) ∙ head_runs args count nodes h items name word.Dot x rest (inl refl))
 item_runs symbols i (labelled a colon_ x inner head (atom name args count nodes h) some) items rest =
     dotted _ _ items rest (ap (run items (state.Atom (atom_begun name) (use_.First a.from (Some a)))) (append_assoc args (at word.Dot x ∷ []) rest)
     ∙ atom_runs args count nodes h items name (use_.First a.from (Some a)) (at word.Dot x ∷ rest) ∙ labelled_dot items a name count nodes x rest some)
 item_runs symbols i (clause arrow x before inner first' others label head goal goals no_label (atom name args count nodes h) g k) items rest =
     dotted _ _ items rest (ap (run items (state.Names name [])) (regroup_clause args (at word.Back arrow) first' others (at word.Dot x) rest)
-    ∙ head_runs args count nodes h items name word.Back arrow _ stands_back ∙ clause_end arrow x first' others None (record { name = name; args = count; nodes = nodes }) goal goals g k items rest)
+    ∙ head_runs args count nodes h items name word.Back arrow _ (inr (inl refl)) ∙ clause_end arrow x first' others None (record { name = name; args = count; nodes = nodes }) goal goals g k items rest)
 item_runs symbols i (clause arrow x before inner first' others label head goal goals (a_label a colon_) (atom name args count nodes h) g k) items rest =
     dotted _ _ items rest (ap (run items (state.Atom (atom_begun name) (use_.First a.from (Some a)))) (regroup_clause args (at word.Back arrow) first' others (at word.Dot x) rest)
     ∙ atom_runs args count nodes h items name (use_.First a.from (Some a)) _ ∙ clause_end arrow x first' others (Some a) (record { name = name; args = count; nodes = nodes }) goal goals g k items rest)
 item_runs symbols i (outer before inner label left right no_label (sides outer' arrow x before' after left' right' (elems side first' others fs gs one' stars) g)) items rest =
     let next = left_end side others gs stars arrow (after ++ at word.Dot x ∷ rest) in
     dotted _ _ items rest
-    (ap (run items (state.Plain plain.Top)) (regroup first' others (at word.Lolli arrow) after (at word.Dot x) rest ∙ ap (λ r. first' ++ r) next.is)
-    ∙ first_elem_runs first' fs one' items next.mark next.x next.rest next.ends
-    ∙ ap (run items (rule_at None (place_of first') None fs None rule.Behind)) (sym next.is)
-    ∙ sides_run_behind true others after gs right stars g items None (place_of first') None fs arrow x rest refl
-    ∙ ap (λ p. run (items ++ item.Outer (record { at = p; label = None; left = left; right = right }) ∷ []) (state.Plain plain.Top) rest) (sym (place_first side first' fs others _ one')))
+    (grind (arith, regroup first' others (at word.Lolli arrow) after (at word.Dot x) rest, next.is, first_elem_runs first' fs one' items next.mark next.x next.rest next.ends, sides_run_behind true others after gs right stars g items None (place_of first') None fs arrow x rest refl, place_first side first' fs others (at word.Lolli arrow ∷ (after ++ at word.Dot x ∷ [])) one'))
 item_runs symbols i (outer before inner label left right (a_label a colon_) (sides outer' arrow x before' after left' right' (elems side first' others fs gs one' stars) g)) items rest =
     let next = left_end side others gs stars arrow (after ++ at word.Dot x ∷ rest) in
     dotted _ _ items rest
-    (ap (run items (state.Plain (plain.Labelled a))) (regroup first' others (at word.Lolli arrow) after (at word.Dot x) rest ∙ ap (λ r. first' ++ r) next.is)
-    ∙ labelled_elem_runs first' fs one' items a next.mark next.x next.rest next.ends
-    ∙ ap (run items (rule_at None a.from (Some a) fs None rule.Behind)) (sym next.is)
-    ∙ sides_run_behind true others after gs right stars g items None a.from (Some a) fs arrow x rest refl)
+    (grind (arith, regroup first' others (at word.Lolli arrow) after (at word.Dot x) rest, next.is, labelled_elem_runs first' fs one' items a next.mark next.x next.rest next.ends, sides_run_behind true others after gs right stars g items None a.from (Some a) fs arrow x rest refl))
 item_runs symbols i (unnamed blank colon_ inner left right h) items rest = dotted _ _ items rest (sides_run true inner left right h items None blank.from None rest refl)
 item_runs symbols i (stage_item stage_ a equals open_ close inner ending rules' h d) items rest =
     let dot' = may_dot_runs ending d (items ++ item.Stage a rules' ∷ []) rest in
@@ -365,14 +307,11 @@ pub record IsRead (symbols : List Symbol) (file : List RawItem) (from : Bool) (i
   pub is : run items (state_behind from) symbols ≡ Some (record { items = items ++ file; state = state_behind may_dot })
 
 pub file_runs : (symbols : List Symbol) (file : List RawItem) → File symbols file → (from : Bool) (items : List RawItem) → IsRead symbols file from items
-file_runs symbols file no_items from items = record { may_dot = from; is = ap (λ is. Some (record { items = is; state = state_behind from })) (sym (append-nil items)) }
+file_runs symbols file no_items from items = record { may_dot = from; is = rw append-nil refl }
 file_runs symbols file (more_items first' others i more h g) from items =
     let one = item_runs first' i h items others in
     let rest = file_runs others more g one.may_dot (items ++ i ∷ []) in
-    record {
-      may_dot = rest.may_dot;
-      is = from_behind from first' i h items others ∙ one.is ∙ rest.is ∙ ap (λ is. Some (record { items = is; state = state_behind rest.may_dot })) (append_assoc items (i ∷ []) more);
-    }
+    record { may_dot = rest.may_dot; is = grind (arith, append_assoc, from_behind from first' i h items others, one.is, rest.is) }
 
 -- the items of a configuration
 items_of : Option Config → List RawItem
@@ -396,24 +335,14 @@ begins_before : (front more_ : List Symbol) → Begins (front ++ more_) → Begi
 begins_before front more_ is = record { more = more_ ++ is.more; items = is.items; file = subst (λ symbols. File symbols is.items) (append_assoc front more_ is.more) is.file }
 
 -- a front that stands before a symbol of another cut, or the same, or one after it
-data Compared (front rest : List Symbol) (next : Symbol) (front' rest' : List Symbol) (next' : Symbol) : Type 0 where
-  before : (mid : List Symbol) → front' ≡ front ++ next ∷ mid → Compared front rest next front' rest' next'
-  same : front ≡ front' → next ≡ next' → Compared front rest next front' rest' next'
-  behind : (mid : List Symbol) → front ≡ front' ++ next' ∷ mid → Compared front rest next front' rest' next'
+abbrev Compared : List Symbol → Symbol → List Symbol → Symbol → Type 0
+Compared front next front' next' = ((mid : List Symbol) × (front' ≡ front ++ next ∷ mid)) ⊎ ((front ≡ front') × (next ≡ next')) ⊎ ((mid : List Symbol) × (front ≡ front' ++ next' ∷ mid))
 
-compared_behind : (x : Symbol) (front rest : List Symbol) (next : Symbol) (front' rest' : List Symbol) (next' : Symbol) → Compared front rest next front' rest' next' → Compared (x ∷ front) rest next (x ∷ front') rest' next'
-compared_behind x front rest next front' rest' next' (before mid is) = before mid (ap (λ xs. x ∷ xs) is)
-compared_behind x front rest next front' rest' next' (same fronts nexts) = same (ap (λ xs. x ∷ xs) fronts) nexts
-compared_behind x front rest next front' rest' next' (behind mid is) = behind mid (ap (λ xs. x ∷ xs) is)
-
-compare : (front rest : List Symbol) (next : Symbol) (front' rest' : List Symbol) (next' : Symbol) → front ++ next ∷ rest ≡ front' ++ next' ∷ rest' → Compared front rest next front' rest' next'
-compare [] rest next [] rest' next' e = same refl cc
-compare [] rest next (y ∷ front') rest' next' e = let first : next ≡ y = cc in before front' (ap (λ z. z ∷ front') (sym first))
-compare (x ∷ front) rest next [] rest' next' e = let first : x ≡ next' = cc in behind front (ap (λ z. z ∷ front) first)
-compare (x ∷ front) rest next (y ∷ front') rest' next' e =
-    let first : x ≡ y = cc in
-    let further : front ++ next ∷ rest ≡ front' ++ next' ∷ rest' = cc in
-    subst (λ z. Compared (x ∷ front) rest next (z ∷ front') rest' next') first (compared_behind x front rest next front' rest' next' (compare front rest next front' rest' next' further))
+compare : (front rest : List Symbol) (next : Symbol) (front' rest' : List Symbol) (next' : Symbol) → front ++ next ∷ rest ≡ front' ++ next' ∷ rest' → Compared front next front' next'
+compare [] rest next [] rest' next' e = grind arith
+compare [] rest next (y ∷ front') rest' next' e = inl (front', grind arith)
+compare (x ∷ front) rest next [] rest' next' e = inr (inr (front, grind arith))
+compare (x ∷ front) rest next (y ∷ front') rest' next' e = grind (arith, compare front rest next front' rest' next')
 
 -- the front with its symbol, as a prefix of what goes on after it
 with_next : (front : List Symbol) (next : Symbol) (mid : List Symbol) → front ++ next ∷ mid ≡ (front ++ next ∷ []) ++ mid
@@ -423,25 +352,11 @@ with_next front next mid = sym (append_assoc front (next ∷ []) mid)
 never_begins : (front : List Symbol) (next : Symbol) (mid more_ : List Symbol) → (Begins (front ++ next ∷ []) → ⊥) → Begins ((front ++ next ∷ mid) ++ more_) → ⊥
 never_begins front next mid more_ no_file is = grind (arith, begins_before, with_next)
 
-begins_whole : (symbols : List Symbol) → Begins symbols → Begins (symbols ++ [])
-begins_whole symbols is = subst Begins (sym (append-nil symbols)) is
-
-unexpected_symbol : (symbols : List Symbol) (size place place' : ℕ) (front rest : List Symbol) (next : Symbol) → symbols ≡ front ++ next ∷ rest → Begins front → (Begins (front ++ next ∷ []) → ⊥) → place ≡ next.at.from → IsUnexpected symbols size place' → place ≡ place'
-unexpected_symbol symbols size place place' front rest next cut begins no_file at (at_symbol front' rest' next' cut' shallow' begins' no_file' at') =
-    by (compare front rest next front' rest' next' (sym cut ∙ cut'))
-  where
-    by : Compared front rest next front' rest' next' → place ≡ place'
-    by (before mid is) = absurd (never_begins front next mid [] no_file (begins_whole (front ++ next ∷ mid) (subst Begins is begins')))
-    by (same fronts nexts) = at ∙ ap (λ (s : Symbol). s.at.from) nexts ∙ sym at'
-    by (behind mid is) = absurd (never_begins front' next' mid [] no_file' (begins_whole (front' ++ next' ∷ mid) (subst Begins is begins)))
-unexpected_symbol symbols size place place' front rest next cut begins no_file at (at_end shallow' begins' no_end at') =
-    absurd (never_begins front next rest [] no_file (begins_whole (front ++ next ∷ rest) (subst Begins cut begins')))
+never_whole : (front : List Symbol) (next : Symbol) (mid : List Symbol) → (Begins (front ++ next ∷ []) → ⊥) → Begins (front ++ next ∷ mid) → ⊥
+never_whole front next mid no_file is = never_begins front next mid [] no_file (rw append-nil is)
 
 unexpected_once : (symbols : List Symbol) (size place place' : ℕ) → IsUnexpected symbols size place → IsUnexpected symbols size place' → place ≡ place'
-unexpected_once symbols size place place' (at_symbol front rest next cut shallow begins no_file at) other = unexpected_symbol symbols size place place' front rest next cut begins no_file at other
-unexpected_once symbols size place place' (at_end shallow begins no_end at) (at_symbol front' rest' next' cut' shallow' begins' no_file' at') =
-    absurd (never_begins front' next' rest' [] no_file' (begins_whole (front' ++ next' ∷ rest') (subst Begins cut' begins)))
-unexpected_once symbols size place place' (at_end shallow begins no_end at) (at_end shallow' begins' no_end' at') = at ∙ sym at'
+unexpected_once symbols size place place' one other = grind (arith, compare, never_whole)
 
 -- a front with too many open parentheses is not shallow
 too_deep : (symbols front rest : List Symbol) → IsShallow symbols → symbols ≡ front ++ rest → open_from 0 front ≡ MOST_OPEN + 1 → ⊥
@@ -458,8 +373,7 @@ whole_begins : (symbols : List Symbol) (items : List RawItem) → File symbols i
 whole_begins symbols items file = record { more = []; items = items; file = subst (λ s. File s items) (sym (append-nil symbols)) file }
 
 file_expected : (symbols : List Symbol) (items : List RawItem) (size place : ℕ) → File symbols items → IsUnexpected symbols size place → ⊥
-file_expected symbols items size place file (at_symbol front rest next cut shallow begins no_file at) = never_begins front next rest [] no_file (begins_whole (front ++ next ∷ rest) (subst Begins cut (whole_begins symbols items file)))
-file_expected symbols items size place file (at_end shallow begins no_end at) = no_end items file
+file_expected symbols items size place file given = grind (arith, never_whole, whole_begins symbols items file)
 
 file_shallow : (symbols : List Symbol) (place : ℕ) → IsShallow symbols → IsNested symbols place → ⊥
 file_shallow symbols place shallow nested = too_deep symbols (nested.front ++ nested.next ∷ []) nested.rest shallow (nested.cut ∙ with_next nested.front nested.next nested.rest) nested.deeper
@@ -579,17 +493,9 @@ open_push (t ∷ front) s n = open_push front s (open_behind t.word n)
 -- a prefix of symbols and one more is all of them, or a prefix of those before the last
 last_or_before : (front : List Symbol) (s : Symbol) (f rest : List Symbol) → front ++ s ∷ [] ≡ f ++ rest → (f ≡ front ++ s ∷ []) ⊎ ((r : List Symbol) × (front ≡ f ++ r))
 last_or_before front s [] rest cut = inr (front, refl)
-last_or_before [] s (t ∷ f) rest cut = inl (only s t f rest cut) where
-  nothing : (f rest : List Symbol) → [] ≡ f ++ rest → f ≡ []
-  nothing [] rest cut = refl
-  nothing (t ∷ f) rest cut = cc
-
-  only : (s t : Symbol) (f rest : List Symbol) → s ∷ [] ≡ t ∷ (f ++ rest) → t ∷ f ≡ s ∷ []
-  only s t f rest cut = let e : [] ≡ f ++ rest = cc in let n = nothing f rest e in let alike : s ≡ t = cc in λ i. sym alike i ∷ n i
-last_or_before (a ∷ front) s (t ∷ f) rest cut =
-    let alike : a ≡ t = cc in
-    let e : front ++ s ∷ [] ≡ f ++ rest = cc in
-    ⊎_elim (λ whole. inl (λ i. sym alike i ∷ whole i)) (λ earlier. inr (earlier.0, λ i. alike i ∷ earlier.1 i)) (last_or_before front s f rest e)
+last_or_before [] s (t ∷ []) rest cut = inl (grind arith)
+last_or_before [] s (t ∷ u ∷ f) rest cut = cc
+last_or_before (a ∷ front) s (t ∷ f) rest cut = grind (arith, last_or_before front s f rest)
 
 shallow_push : (front : List Symbol) (s : Symbol) → IsShallow front → open_from 0 (front ++ s ∷ []) ≤ MOST_OPEN → IsShallow (front ++ s ∷ [])
 shallow_push front s shallow within f rest cut = grind (arith, last_or_before)
@@ -599,17 +505,13 @@ pub at_next : (front : List Symbol) (items : List RawItem) (s : State) (open_ : 
     → IsAt (front ++ at w x ∷ []) c.items c.state (open_behind w open_)
 at_next front items s open_ w x c is goes within = grind (arith, open_push front (at w x) 0, run_append, run_from, reads_next, file_back, shallow_push, is.open_is, is.ran, is.reads.file, is.shallow)
 
--- a reading is not both on and stopped
-some_or_none : (c : Config) → Some c ≡ None → ⊥
-some_or_none c e = cc
-
 -- where a symbol stops the reading no file goes on so
 no_file : (front rest : List Symbol) (items : List RawItem) (s : State) (w : Word) (x : Span) → run [] (state.Plain plain.Top) front ≡ Some (record { items = items; state = s }) → moved items (step s w x) ≡ None
     → (file : List RawItem) → File ((front ++ at w x ∷ []) ++ rest) file → ⊥
 no_file front rest items s w x ran stops file h =
     let f = file_runs _ file h false [] in
-    let e : run [] (state.Plain plain.Top) ((front ++ at w x ∷ []) ++ rest) ≡ None = ap (λ b. run [] (state.Plain plain.Top) b) (append_assoc front (at w x ∷ []) rest) ∙ run_append (Some (record { items = []; state = state.Plain plain.Top })) front (at w x ∷ rest) ∙ ap (λ at_. run_from at_ (at w x ∷ rest)) ran ∙ ap (λ at_. run_from at_ rest) stops ∙ run_stopped rest in
-    some_or_none (record { items = [] ++ file; state = state_behind f.may_dot }) (sym f.is ∙ e)
+    let e : run [] (state.Plain plain.Top) ((front ++ at w x ∷ []) ++ rest) ≡ None = grind (arith, append_assoc front (at w x ∷ []) rest, run_append (Some (record { items = []; state = state.Plain plain.Top })) front (at w x ∷ rest), run_stopped rest) in
+    let none = sym f.is ∙ e in cc
 
 -- that symbol is unexpected
 pub stops_at : (symbols front rest : List Symbol) (items : List RawItem) (s : State) (open_ : ℕ) (w : Word) (x : Span) (size : ℕ) → IsAt front items s open_ → moved items (step s w x) ≡ None → symbols ≡ front ++ at w x ∷ rest → IsUnexpected symbols size x.from
@@ -630,8 +532,8 @@ nests_at symbols front rest items s open_ w x c is goes opens full cut =
     }
 
 between_file : (symbols : List Symbol) (items : List RawItem) (s : State) → is_within s ≡ false → Reads items s symbols → File symbols items
-between_file symbols items (state.Plain plain.Ended) h r = subst (λ b. File b items) (append-nil symbols) (subst (λ ms. File (symbols ++ []) ms) (append-nil items) (r.file [] [] (inl no_items)))
-between_file symbols items (state.Plain plain.Top) h r = subst (λ b. File b items) (append-nil symbols) (subst (λ ms. File (symbols ++ []) ms) (append-nil items) (r.file [] [] no_items))
+between_file symbols items (state.Plain plain.Ended) h r = rw (append-nil symbols, append-nil items) at (r.file [] [] (inl no_items))
+between_file symbols items (state.Plain plain.Top) h r = rw (append-nil symbols, append-nil items) at (r.file [] [] no_items)
 between_file symbols items s h r = absurd (false≢true (sym h))
 
 -- all symbols are a file
@@ -676,23 +578,21 @@ symbol_at text (token ∷ tokens) (suc i) d within = symbol_at text tokens i d (
 symbol_at text tokens i d within = grind arith
 
 in_symbols : (text : List ℕ) (tokens : List Token) (i : ℕ) → i < length tokens → i < length (symbols_of text tokens)
-in_symbols text tokens i within = let e = length-map tokens (symbol_of text) in omega arith
+in_symbols text tokens i within = omega (arith, length-map tokens (symbol_of text))
 
 -- the symbols, cut at a token
-pub symbols_cut : (text : List ℕ) (tokens items : List Token) (i : ℕ) (d : Token) → items ≡ tokens → i < length items
-    → symbols_of text tokens ≡ take i (symbols_of text tokens) ++ symbol_of text (get_or items i d) ∷ drop (i + 1) (symbols_of text tokens)
-symbols_cut text tokens items i d e within =
-    let w : i < length tokens = subst (λ (ts : List Token). i < length ts) e within in
-    sym (take-append-drop i (symbols_of text tokens))
-    ∙ ap (λ r. take i (symbols_of text tokens) ++ r) (drop_more (symbols_of text tokens) i (symbol_of text d) (in_symbols text tokens i w))
-    ∙ ap (λ s. take i (symbols_of text tokens) ++ s ∷ drop (i + 1) (symbols_of text tokens)) (symbol_at text tokens i d w ∙ ap (λ (ts : List Token). symbol_of text (get_or ts i d)) (sym e))
+pub symbols_cut : (text : List ℕ) (tokens items : List Token) (i : ℕ) (d : Token) (s : Symbol) → items ≡ tokens → i < length items → s ≡ symbol_of text (get_or items i d)
+    → symbols_of text tokens ≡ take i (symbols_of text tokens) ++ s ∷ drop (i + 1) (symbols_of text tokens)
+symbols_cut text tokens items i d s e within is =
+    let w : i < length tokens = rw e at within in
+    grind (arith, take-append-drop i (symbols_of text tokens), drop_more (symbols_of text tokens) i (symbol_of text d) (in_symbols text tokens i w), symbol_at text tokens i d w)
 
 -- one symbol more
-pub symbols_next : (text : List ℕ) (tokens items : List Token) (i : ℕ) (d : Token) → items ≡ tokens → i < length items
-    → take i (symbols_of text tokens) ++ symbol_of text (get_or items i d) ∷ [] ≡ take (i + 1) (symbols_of text tokens)
-symbols_next text tokens items i d e within =
-    let w : i < length tokens = subst (λ (ts : List Token). i < length ts) e within in
-    sym (take_more (symbols_of text tokens) i (symbol_of text d) (in_symbols text tokens i w) ∙ ap (λ s. take i (symbols_of text tokens) ++ s ∷ []) (symbol_at text tokens i d w ∙ ap (λ (ts : List Token). symbol_of text (get_or ts i d)) (sym e)))
+pub symbols_next : (text : List ℕ) (tokens items : List Token) (i : ℕ) (d : Token) (s : Symbol) → items ≡ tokens → i < length items → s ≡ symbol_of text (get_or items i d)
+    → take i (symbols_of text tokens) ++ s ∷ [] ≡ take (i + 1) (symbols_of text tokens)
+symbols_next text tokens items i d s e within is =
+    let w : i < length tokens = rw e at within in
+    grind (arith, take_more (symbols_of text tokens) i (symbol_of text d) (in_symbols text tokens i w), symbol_at text tokens i d w)
 
 -- no more parentheses are open than may be
 pub open_within : (front : List Symbol) (items : List RawItem) (s : State) (depth : ℕ) → IsAt front items s depth → depth ≤ MOST_OPEN

@@ -5,11 +5,9 @@ use Rattle.cep_parse.specs.declared.raw.RawAtom.{RawAtom}
 use Rattle.cep_parse.specs.declared.raw.RawElem.{RawElem}
 use Rattle.cep_parse.specs.declared.raw.RawItem.{RawItem}
 use Rattle.cep_parse.specs.declared.raw.RawRule.{RawRule}
-use Rattle.cep_parse.specs.declared.state.AtomSoFar.{AtomSoFar}
 use Rattle.cep_parse.specs.declared.state.BagHome.{BagHome}
 use Rattle.cep_parse.specs.declared.state.BagPlace.{BagPlace}
 use Rattle.cep_parse.specs.declared.state.BagSoFar.{BagSoFar}
-use Rattle.cep_parse.specs.declared.state.ClauseSoFar.{ClauseSoFar}
 use Rattle.cep_parse.specs.declared.state.Next.{Next}
 use Rattle.cep_parse.specs.declared.state.Next.TheVariants.{Go}
 use Rattle.cep_parse.specs.declared.state.RulePlace.{RulePlace}
@@ -18,7 +16,7 @@ use Rattle.cep_parse.specs.declared.state.StageSoFar.{StageSoFar}
 use Rattle.cep_parse.specs.declared.state.State.{State}
 use Rattle.cep_parse.specs.declared.state.Use.{Use}
 use Rattle.cep_parse.specs.declared.symbol.Word.{Word}
-use Rattle.cep_parse.specs.Machine.{bag_behind, bag_ended, bag_first, bag_next, bag_unit, before_elem, before_goal, begin, behind_atom, behind_blank, behind_dollar, behind_goal, behind_head, behind_in, behind_left, behind_open, behind_right, behind_stage, context_equals, context_begun, context_word, Grown, grow_in, grown, interactive_word, is_within, labelled, names_begun, rule_ended, rule_named, stage_equals, stage_begun, stage_word, step, step_atom, step_bag, step_declared, step_ending, step_names, step_rule, step_rules, trace_limit, trace_stage, trace_word}
+use Rattle.cep_parse.specs.Machine.{bag_behind, bag_ended, bag_first, before_elem, begin, behind_atom, behind_in, behind_left, behind_right, Grown, grow_in, grown, is_within, labelled, names_begun, rule_ended, step, step_bag, step_names, step_rule}
 use Rattle.std.proofs.lemmas.List.{append-nil, length-map}
 use Rattle.std.specs.Prelude.{None}
 use Rattle.std.specs.List.{AllByRecursion}
@@ -34,6 +32,7 @@ use Rattle.cep_parse.specs.declared.state.Plain.TheVariants as plain
 use Rattle.cep_parse.specs.declared.state.State.TheVariants as state
 use Rattle.cep_lex.specs.declared.token.TokenKind.TheVariants as token
 use Rattle.cep_parse.specs.Grammar as grammar
+use Rattle.cep_base.proofs.Elements.{both_all}
 
 -- whether a step leads to where items begin
 abbrev pub is_between : Next → Bool
@@ -57,17 +56,8 @@ behind_right_within r right w = grind (arith, rule_ended_within)
 behind_in_within : (right : Option (List RawElem)) (r : RuleSoFar) (w : Word) → is_between (behind_in right r w) ≡ false
 behind_in_within right r w = grind (arith, behind_left_within, behind_right_within)
 
-dollar_within : (r : RuleSoFar) (w : Word) (x : Span) → is_between (behind_dollar r w x) ≡ false
-dollar_within r w x = grind arith
-
-open_within : (r : RuleSoFar) (w : Word) → is_between (behind_open r w) ≡ false
-open_within r w = grind arith
-
-stage_within : (r : RuleSoFar) (w : Word) (x : Span) → is_between (behind_stage r w x) ≡ false
-stage_within r w x = grind arith
-
 rule_within : (r : RuleSoFar) (place : RulePlace) (w : Word) (x : Span) → is_between (step_rule r place w x) ≡ false
-rule_within r place w x = grind (arith, before_elem_within, dollar_within, open_within, stage_within, behind_in_within)
+rule_within r place w x = grind (arith, before_elem_within, behind_in_within)
 
 bag_ended_within : (home_ : BagHome) (atoms : List RawAtom) → is_between (bag_ended home_ atoms) ≡ false
 bag_ended_within home_ atoms = grind arith
@@ -75,41 +65,23 @@ bag_ended_within home_ atoms = grind arith
 bag_first_within : (b : BagSoFar) (w : Word) (x : Span) → is_between (bag_first b w x) ≡ false
 bag_first_within b w x = grind (arith, bag_ended_within)
 
-bag_next_within : (b : BagSoFar) (w : Word) (x : Span) → is_between (bag_next b w x) ≡ false
-bag_next_within b w x = grind arith
-
-bag_unit_within : (b : BagSoFar) (w : Word) → is_between (bag_unit b w) ≡ false
-bag_unit_within b w = grind arith
-
 bag_behind_within : (b : BagSoFar) (w : Word) → is_between (bag_behind b w) ≡ false
 bag_behind_within b w = grind (arith, bag_ended_within)
 
 bag_within : (b : BagSoFar) (place : BagPlace) (w : Word) (x : Span) → is_between (step_bag b place w x) ≡ false
-bag_within b place w x = grind (arith, bag_first_within, bag_next_within, bag_unit_within, bag_behind_within)
-
-head_within : (place : ℕ) (label : Option Span) (head : RawAtom) (w : Word) → is_between (behind_head place label head w) ≡ false
-head_within place label head w = grind arith
-
-goal_within : (c : ClauseSoFar) (w : Word) → is_between (behind_goal c w) ≡ false
-goal_within c w = grind arith
+bag_within b place w x = grind (arith, bag_first_within, bag_behind_within)
 
 use_within : (used : Use) (a : RawAtom) (w : Word) → is_between (behind_atom used a w) ≡ false
-use_within used a w = grind (arith, head_within, goal_within, behind_in_within, bag_behind_within)
+use_within used a w = grind (arith, behind_in_within, bag_behind_within)
 
 grown_within : (g : Grown) (used : Use) (w : Word) → is_between (grown g used w) ≡ false
 grown_within g used w = grind (arith, use_within)
-
-atom_within : (a : AtomSoFar) (used : Use) (w : Word) (x : Span) → is_between (step_atom a used w x) ≡ false
-atom_within a used w x = grown_within (grow_in a.levels a w x) used w
 
 named_within : (name : Span) (args : List Span) → is_between (names_begun name args) ≡ false
 named_within name args = grind arith
 
 names_within : (name : Span) (args : List Span) (w : Word) (x : Span) → is_between (step_names name args w x) ≡ false
-names_within name args w x = grind (arith, named_within, atom_within)
-
-declared_within : (name : Span) (args : List Span) (w : Word) (x : Span) → is_between (step_declared name args w x) ≡ false
-declared_within name args w x = grind arith
+names_within name args w x = grind (arith, named_within, grown_within)
 
 labelled_within : (a : Span) (w : Word) (x : Span) → is_between (labelled a w x) ≡ false
 labelled_within a w x = grind (arith, before_elem_within)
@@ -117,82 +89,17 @@ labelled_within a w x = grind (arith, before_elem_within)
 pub begin_within : (w : Word) (x : Span) → is_between (begin w x) ≡ false
 begin_within w x = grind (arith, before_elem_within)
 
-blank_within : (place : ℕ) (w : Word) → is_between (behind_blank place w) ≡ false
-blank_within place w = grind arith
-
-stage_word_within : (place : ℕ) (w : Word) (x : Span) → is_between (stage_word place w x) ≡ false
-stage_word_within place w x = grind arith
-
-stage_named_within : (place : ℕ) (a : Span) (w : Word) → is_between (stage_begun place a w) ≡ false
-stage_named_within place a w = grind (arith, behind_left_within)
-
-stage_equals_within : (a : Span) (w : Word) → is_between (stage_equals a w) ≡ false
-stage_equals_within a w = grind arith
-
-context_word_within : (w : Word) (x : Span) → is_between (context_word w x) ≡ false
-context_word_within w x = grind arith
-
-context_named_within : (a : Span) (w : Word) → is_between (context_begun a w) ≡ false
-context_named_within a w = grind arith
-
-context_equals_within : (a : Span) (w : Word) → is_between (context_equals a w) ≡ false
-context_equals_within a w = grind arith
-
-interactive_within : (w : Word) (x : Span) → is_between (interactive_word w x) ≡ false
-interactive_within w x = grind arith
-
-trace_word_within : (place : ℕ) (w : Word) (x : Span) → is_between (trace_word place w x) ≡ false
-trace_word_within place w x = grind arith
-
-trace_limit_within : (place : ℕ) (limit : Option Span) (w : Word) (x : Span) → is_between (trace_limit place limit w x) ≡ false
-trace_limit_within place limit w x = grind arith
-
-trace_stage_within : (place : ℕ) (limit : Option Span) (a : Span) (w : Word) (x : Span) → is_between (trace_stage place limit a w x) ≡ false
-trace_stage_within place limit a w x = grind arith
-
-ending_within : (given : RawItem) (w : Word) → is_between (step_ending given w) ≡ false
-ending_within given w = grind arith
-
-rules_within : (stage : StageSoFar) (w : Word) (x : Span) → is_between (step_rules stage w x) ≡ false
-rules_within stage w x = grind arith
-
-rule_named_within : (stage : StageSoFar) (a : Span) (w : Word) → is_between (rule_named stage a w) ≡ false
-rule_named_within stage a w = grind arith
-
-before_goal_within : (c : ClauseSoFar) (w : Word) (x : Span) → is_between (before_goal c w x) ≡ false
-before_goal_within c w x = grind arith
-
 -- nor does it from within
 pub step_within : (s : State) (w : Word) (x : Span) → is_within s ≡ true → is_between (step s w x) ≡ false
 step_within (state.Plain (plain.Labelled a)) w x h = labelled_within a w x
-step_within (state.Plain (plain.Blank place)) w x h = blank_within place w
-step_within (state.Plain (plain.StageWord place)) w x h = stage_word_within place w x
-step_within (state.Plain (plain.StageNamed place a)) w x h = stage_named_within place a w
-step_within (state.Plain (plain.StageEquals a)) w x h = stage_equals_within a w
-step_within (state.Plain plain.ContextWord) w x h = context_word_within w x
-step_within (state.Plain (plain.ContextNamed a)) w x h = context_named_within a w
-step_within (state.Plain (plain.ContextEquals a)) w x h = context_equals_within a w
-step_within (state.Plain plain.InteractiveWord) w x h = interactive_within w x
-step_within (state.Plain (plain.TraceWord place)) w x h = trace_word_within place w x
-step_within (state.Plain (plain.TraceLimit place limit)) w x h = trace_limit_within place limit w x
-step_within (state.Plain (plain.TraceStage place limit a)) w x h = trace_stage_within place limit a w x
+step_within (state.Plain (plain.StageNamed place a)) w x h = grind (arith, behind_left_within)
 step_within (state.Names name args) w x h = names_within name args w x
-step_within (state.Declared name args) w x h = declared_within name args w x
-step_within (state.Ending given) w x h = ending_within given w
-step_within (state.Rules stage) w x h = rules_within stage w x
-step_within (state.RuleNamed stage a) w x h = rule_named_within stage a w
 step_within (state.Rule r place) w x h = rule_within r place w x
-step_within (state.Goal c) w x h = before_goal_within c w x
 step_within (state.Bag b place) w x h = bag_within b place w x
-step_within (state.Atom a used) w x h = atom_within a used w x
+step_within (state.Atom a used) w x h = grown_within (grow_in a.levels a w x) used w
 step_within s w x h = grind arith
 
 -- What the grammar says of each item: the nodes of its atoms are their arguments, and its names and variables are tokens of these kinds.
-
--- what holds of two lists holds of both, one after the other
-both_all : {A : Type 0} (P : A → Type 0) (xs ys : List A) → AllByRecursion P xs → AllByRecursion P ys → AllByRecursion P (xs ++ ys)
-both_all P [] ys here there = there
-both_all P (x ∷ xs) ys here there = (here.0, both_all P xs ys here.1 there)
 
 -- and the other way round
 first_all : {A : Type 0} (P : A → Type 0) (xs ys : List A) → AllByRecursion P (xs ++ ys) → AllByRecursion P xs
@@ -243,13 +150,13 @@ module _ (tokens : List Token) where
 
   -- those after the first, those before others, and those after others
   next : (symbol : Symbol) (symbols : List Symbol) → AreSaid (symbol ∷ symbols) → AreSaid symbols
-  next symbol symbols said = record { all = said.all.1; few = let f = said.few in omega arith }
+  next symbol symbols said = record { all = said.all.1; few = omega (arith, said.few) }
 
   front : (one other : List Symbol) → AreSaid (one ++ other) → AreSaid one
-  front one other said = record { all = first_all _ one other said.all; few = let f = said.few in let e = length-append one other in omega arith }
+  front one other said = record { all = first_all _ one other said.all; few = omega (arith, said.few, length-append one other) }
 
   back : (one other : List Symbol) → AreSaid (one ++ other) → AreSaid other
-  back one other said = record { all = rest_all _ one other said.all; few = let f = said.few in let e = length-append one other in omega arith }
+  back one other said = record { all = rest_all _ one other said.all; few = omega (arith, said.few, length-append one other) }
 
   abbrev AreNodes : List RawNode → Type 0
   AreNodes nodes = AllByRecursion (λ node. IsWrittenAt tokens node.kind node.at) nodes
@@ -311,30 +218,22 @@ module _ (tokens : List Token) where
         both_all _ nodes more (arg_nodes first nodes arg (front first others said)) (args_nodes others args more all (back first others said))
 
   whole_fill : (args : ℕ) (nodes : List RawNode) → Fill (args + 0) (nodes ++ []) → Fill args nodes
-  whole_fill args nodes fill = let e : args + 0 ≡ args = omega arith in subst (λ n. Fill n nodes) e (subst (Fill (args + 0)) (append-nil nodes) fill)
+  whole_fill args nodes fill = let e : args + 0 ≡ args = omega arith in rw (e, append-nil nodes) at fill
 
   -- there are no more nodes than symbols
   mutual
     arg_few : (symbols : List Symbol) (nodes : List RawNode) → grammar.Arg symbols nodes → length nodes ≤ length symbols
-    arg_few _ _ (grammar.Arg.arg_name a) = omega arith
-    arg_few _ _ (grammar.Arg.arg_variable a) = omega arith
-    arg_few _ _ (grammar.Arg.arg_blank a) = omega arith
-    arg_few _ _ (grammar.Arg.arg_term open_ close symbols nodes term) = let e = term_few symbols nodes term in let f = length-append symbols (at word.Close close ∷ []) in omega arith
+    arg_few _ _ (grammar.Arg.arg_term open_ close symbols nodes term) = omega (arith, term_few symbols nodes term, length-append symbols (at word.Close close ∷ []))
+    arg_few _ _' given = omega arith
 
     term_few : (symbols : List Symbol) (nodes : List RawNode) → grammar.Term symbols nodes → length nodes ≤ length symbols
-    term_few _ _ (grammar.Term.applied a symbols args nodes all) = let e = args_few symbols args nodes all in omega arith
-    term_few _ _ (grammar.Term.variable a) = omega arith
-    term_few _ _ (grammar.Term.blank a) = omega arith
-    term_few _ _ (grammar.Term.nested open_ close symbols nodes term) = let e = term_few symbols nodes term in let f = length-append symbols (at word.Close close ∷ []) in omega arith
+    term_few _ _ (grammar.Term.applied a symbols args nodes all) = omega (arith, args_few symbols args nodes all)
+    term_few _ _ (grammar.Term.nested open_ close symbols nodes term) = omega (arith, term_few symbols nodes term, length-append symbols (at word.Close close ∷ []))
+    term_few _ _' given = omega arith
 
     args_few : (symbols : List Symbol) (args : ℕ) (nodes : List RawNode) → grammar.Args symbols args nodes → length nodes ≤ length symbols
     args_few _ _ _ grammar.Args.no_args = omega arith
-    args_few _ _ _ (grammar.Args.more_args first others args nodes more arg all) =
-        let e = arg_few first nodes arg in
-        let f = args_few others args more all in
-        let g = length-append first others in
-        let h = length-append nodes more in
-        omega arith
+    args_few _ _ _ (grammar.Args.more_args first others args nodes more arg all) = omega (arith, arg_few first nodes arg, args_few others args more all, length-append first others, length-append nodes more)
 
   atom_well : (symbols : List Symbol) (atom : RawAtom) → grammar.Atom symbols atom → AreSaid symbols → IsAtomOf tokens atom
   atom_well _ _ (grammar.Atom.atom a symbols args nodes all) said = record {

@@ -1,4 +1,4 @@
-use Rattle.std.proofs.Common.{◌+◌, [], ◌∷◌, ◌++◌, length, take, drop, sym, ap, subst, ◌∙◌}
+use Rattle.std.proofs.Common.{◌+◌, [], length, take, drop, sym, ap, subst, ◌∙◌}
 use Rattle.cep_parse.specs.declared.state.Plain.TheVariants.{Top}
 use Rattle.cep_parse.specs.declared.state.State.TheVariants.{Plain}
 use Rattle.cep_parse.specs.declared.symbol.Symbol.{Symbol}
@@ -25,8 +25,7 @@ pub returns-in-None : goal.returns-in-None
 returns-in-None c =
     let symbols = symbols_of c.args.text.now c.args.tokens.now in
     let i = c.loop-token.token-index in
-    let cut = symbols_cut c.args.text.now c.args.tokens.now c.as_slice-token-items.result.now i _ c.as_slice-token-items.ensures c.loop-token-test.true
-    ∙ ap (λ (s : Symbol). take i symbols ++ s ∷ drop (i + 1) symbols) (sym c.symbol_of-symbol.ensures) in
+    let cut = symbols_cut c.args.text.now c.args.tokens.now c.as_slice-token-items.result.now i _ _ c.as_slice-token-items.ensures c.loop-token-test.true c.symbol_of-symbol.ensures in
     subst (λ place. IsUnexpected symbols (length c.args.text.now) place) (ap (λ (s : Symbol). s.at.from) c.symbol_of-symbol.ensures)
     (stops_at symbols (take i symbols) (drop (i + 1) symbols) c.loop-token.items c.loop-token.state c.loop-token.depth c.symbol_of-symbol.result.word c.symbol_of-symbol.result.at (length c.args.text.now) c.loop-token.invariant
     (rw c.in-None.is at c.in_ok-next.ensures) cut)
@@ -35,8 +34,7 @@ pub returns-then-is_too_deep : goal.returns-then-is_too_deep
 returns-then-is_too_deep c =
     let symbols = symbols_of c.args.text.now c.args.tokens.now in
     let i = c.loop-token.token-index in
-    let cut = symbols_cut c.args.text.now c.args.tokens.now c.as_slice-token-items.result.now i _ c.as_slice-token-items.ensures c.loop-token-test.true
-    ∙ ap (λ (s : Symbol). take i symbols ++ s ∷ drop (i + 1) symbols) (sym c.symbol_of-symbol.ensures) in
+    let cut = symbols_cut c.args.text.now c.args.tokens.now c.as_slice-token-items.result.now i _ _ c.as_slice-token-items.ensures c.loop-token-test.true c.symbol_of-symbol.ensures in
     let deep = rw c.if-is_too_deep.true at c.is_too_deep.ensures in
     subst (λ place. IsNested symbols place) (ap (λ (s : Symbol). s.at.from) c.symbol_of-symbol.ensures)
     (nests_at symbols (take i symbols) (drop (i + 1) symbols) c.loop-token.items c.loop-token.state c.loop-token.depth c.symbol_of-symbol.result.word c.symbol_of-symbol.result.at
@@ -46,21 +44,17 @@ pub loop-token-preserved : goal.loop-token-preserved
 loop-token-preserved c =
     let symbols = symbols_of c.args.text.now c.args.tokens.now in
     let i = c.loop-token.token-index in
-    let front = ap (λ (s : Symbol). take i symbols ++ s ∷ []) c.symbol_of-symbol.ensures
-    ∙ symbols_next c.args.text.now c.args.tokens.now c.as_slice-token-items.result.now i _ c.as_slice-token-items.ensures c.loop-token-test.true in
-    subst (λ f. IsAt f c.advance.new.items c.in-Some.next c.open_behind-depth.result) front
-    (subst (λ n. IsAt (take i symbols ++ c.symbol_of-symbol.result ∷ []) c.advance.new.items c.in-Some.next n) (sym c.open_behind-depth.ensures)
+    let front = symbols_next c.args.text.now c.args.tokens.now c.as_slice-token-items.result.now i _ _ c.as_slice-token-items.ensures c.loop-token-test.true c.symbol_of-symbol.ensures in
+    rw (← front, c.open_behind-depth.ensures)
     (at_next (take i symbols) c.loop-token.items c.loop-token.state c.loop-token.depth c.symbol_of-symbol.result.word c.symbol_of-symbol.result.at
-    (record { items = c.advance.new.items; state = c.in-Some.next }) c.loop-token.invariant (rw c.in-Some.is at c.in_ok-next.ensures) (rw c.if-is_too_deep.false at c.is_too_deep.ensures)))
+    (record { items = c.advance.new.items; state = c.in-Some.next }) c.loop-token.invariant (rw c.in-Some.is at c.in_ok-next.ensures) (rw c.if-is_too_deep.false at c.is_too_deep.ensures))
 
 pub returns-then-within : goal.returns-then-within
 returns-then-within c =
-    let symbols = symbols_of c.args.text.now c.args.tokens.now in
     let all = all_read c.args.text.now c.args.tokens.now c.as_slice-token-items.result.now c.loop-token.token-index c.as_slice-token-items.ensures c.loop-token-test.false in
-    ends_early symbols c.loop-token.items c.loop-token.state c.loop-token.depth (length c.args.text.now) (subst (λ f. IsAt f c.loop-token.items c.loop-token.state c.loop-token.depth) all c.loop-token.invariant) (sym c.is_within-within.ensures ∙ c.if-within.true)
+    ends_early _ c.loop-token.items c.loop-token.state c.loop-token.depth (length c.args.text.now) (rw all at c.loop-token.invariant) (sym c.is_within-within.ensures ∙ c.if-within.true)
 
 pub returns : goal.returns
 returns c =
-    let symbols = symbols_of c.args.text.now c.args.tokens.now in
     let all = all_read c.args.text.now c.args.tokens.now c.as_slice-token-items.result.now c.loop-token.token-index c.as_slice-token-items.ensures c.loop-token-test.false in
-    ends_well symbols c.loop-token.items c.loop-token.state c.loop-token.depth (subst (λ f. IsAt f c.loop-token.items c.loop-token.state c.loop-token.depth) all c.loop-token.invariant) (sym c.is_within-within.ensures ∙ c.if-within.false)
+    ends_well _ c.loop-token.items c.loop-token.state c.loop-token.depth (rw all at c.loop-token.invariant) (sym c.is_within-within.ensures ∙ c.if-within.false)
