@@ -1,5 +1,5 @@
 -- What is found is wrong.
-use Rattle.std.proofs.Common.{◌≡◌, ⊎_elim, subst, ℕ, Bool, true, false, ◌||◌, if◌then◌else◌, List, [], ◌∷◌, length, filter, refl, ap, sym, ◌∙◌, count_by, cond, arith, ◌≢◌, ◌==◌, ◌&&◌, not, nat_lt, nat_le, ◌++◌, map, Option, Some, None, is_some, ◌⊎◌, inl, inr}
+use Rattle.std.proofs.Common.{◌≡◌, ⊎_elim, subst, ℕ, Bool, true, false, ◌||◌, if◌then◌else◌, List, [], ◌∷◌, length, filter, refl, ap, sym, ◌∙◌, count_by, cond, arith, ◌≢◌, ◌==◌, not, nat_lt, nat_le, ◌++◌, map, Option, Some, None, is_some, ◌⊎◌, inl, inr}
 use Rattle.std.proofs.lemmas.List.Sums.{sum_by-cons}
 use Rattle.cep_parse.specs.declared.raw.RawElem.{RawElem}
 use Rattle.cep_refusal.specs.declared.fault.Fault.{Fault}
@@ -7,11 +7,11 @@ use Rattle.cep_source.specs.declared.space.Space.{Space}
 use Rattle.cep_source.specs.Items.{Source, PredItem, ConItem, ClauseItem, RuleItem, ContextItem, TraceItem, said, preds_of, cons_of, clauses_of, rules_of, interactives_of, contexts_of, traces_of}
 use Rattle.cep_source.specs.Spaces.{is_in, pred_named, con_named, kind_of, IsTwice}
 use Rattle.cep_source.specs.Uses.{stages_named, uses_in, needed_atoms, made_atoms, clause_atoms, state_atoms, atoms_written, stands_for_context, stages_at, contexts_at, applied_at}
-use Rattle.cep_faults.specs.Faults.{is_somewhere, is_stage, lack_faults, use_faults, arity_faults, pred_arity, pred_faults, con_arity, kind_faults, node_faults, names_faults, back_by, back_faults, linear_by, linear_faults, clause_atom_faults, elem_faults, is_fit, unfit_faults, state_faults, listed_faults, past, past_most, argument_faults, predicate_faults, con_faults, premise_faults, right_faults, is_qui_rule, home_faults, variable_faults, rule_faults, clause_faults, context_faults, begin_faults, turns_faults, trace_faults, side_atom_faults}
-use Rattle.cep_base.proofs.Members.{In, here, there, in_nil, in_one, in_parts, in_same, in_left, in_right, through, via, image, mapped, to_contains, from_contains}
+use Rattle.cep_faults.specs.Faults.{is_somewhere, is_stage, lack_faults, use_faults, arity_faults, pred_arity, pred_faults, con_arity, kind_faults, node_faults, names_faults, back_by, back_faults, linear_by, linear_faults, clause_atom_faults, elem_faults, is_fit, unfit_faults, state_faults, listed_faults, past, past_most, argument_faults, predicate_faults, con_faults, is_qui_rule, home_faults, rule_faults, clause_faults, context_faults, begin_faults, turns_faults, trace_faults, side_atom_faults}
+use Rattle.cep_base.proofs.Members.{In, here, in_nil, in_one, in_parts, in_same, in_left, in_right, through, via, image, mapped, to_contains, from_contains, in_filter, from_filter}
 use Rattle.std.specs.Option.{option_map}
 use Rattle.std.specs.List.{flat_map, slice_get, sum_by, Contains}
-use Rattle.std.proofs.lemmas.Bool.{false≢true, le-leb, eq-eqb, eqb-false, ltb-true, or_cases, eqb-true, lt-ltb}
+use Rattle.std.proofs.lemmas.Bool.{false≢true, le-leb, eq-eqb, eqb-false, ltb-true, or_cases, eqb-true, lt-ltb, and_parts, and_from, or_left, or_right, ne_eqb}
 use Rattle.cep_base.specs.declared.kind.PredKind.{PredKind}
 use Rattle.cep_base.specs.declared.kind.PredKind.TheVariants.{Linear, Back, Fact}
 use Rattle.cep_base.specs.declared.limits.TheConstants.{MOST_ARGUMENTS, MOST_BACKS, MOST_CLAUSES, MOST_CONS, MOST_COPIES, MOST_DEPTH, MOST_GOALS, MOST_NODES, MOST_PREDS, MOST_PREMISES, MOST_RIGHT, MOST_RULES, MOST_STATE_NODES, MOST_VARIABLES}
@@ -47,25 +47,6 @@ differing b w fault h = grind (arith, in_nil, in_one)
 pub holding : (b : Bool) (w fault : Fault) → In (let found : List Fault = if b then w ∷ [] else [] in found) fault → (b ≡ true) × (fault ≡ w)
 holding b w fault h = grind (arith, in_one, in_nil)
 
--- what a filter keeps
-kept_there : {X : Type 0} (p : X → Bool) (b : Bool) (x y : X) (xs : List X) → In (filter p xs) y → In (let kept : List X = if b then x ∷ filter p xs else filter p xs in kept) y
-kept_there p b x y xs h = grind (arith, there)
-
-kept_here : {X : Type 0} (p : X → Bool) (b : Bool) (x : X) (xs : List X) → b ≡ true → In (let kept : List X = if b then x ∷ filter p xs else filter p xs in kept) x
-kept_here p b x xs e = grind (arith, here)
-
-pub kept_in : {X : Type 0} (p : X → Bool) (xs : List X) (x : X) → In xs x → p x ≡ true → In (filter p xs) x
-kept_in p (z ∷ xs) x (there a b c h) is = kept_there p (p z) z x xs (kept_in p xs x h is)
-kept_in p xs x h is = grind (arith, in_nil, kept_here)
-
-kept_by : {X : Type 0} (p : X → Bool) (b : Bool) (x y : X) (xs : List X) → p x ≡ b → (In (filter p xs) y → In xs y × (p y ≡ true)) → In (let kept : List X = if b then x ∷ filter p xs else filter p xs in kept) y → In (x ∷ xs) y × (p y ≡ true)
-kept_by p true x y xs is rest h = ⊎_elim (λ one. let same = in_one x y one in (subst (In (x ∷ xs)) (sym same) (here x xs), ap p same ∙ is)) (λ m. (there x y xs (rest m).0, (rest m).1)) (in_parts (x ∷ []) (filter p xs) y h)
-kept_by p false x y xs is rest h = (there x y xs (rest h).0, (rest h).1)
-
-pub kept_from : {X : Type 0} (p : X → Bool) (xs : List X) (x : X) → In (filter p xs) x → In xs x × (p x ≡ true)
-kept_from p [] x h = absurd (in_nil x h)
-kept_from p (z ∷ xs) x h = kept_by p (p z) z x xs refl (kept_from p xs x) h
-
 -- the spaces that have a name
 module _ (source : Source) (name : List ℕ) where
   abbrev has : Space → Bool
@@ -97,14 +78,11 @@ stage_count (elem.Atom kept atom ∷ side) = stage_count side
 stage_count (elem.Qui span ∷ side) = stage_count side
 stage_count (elem.Stage name ∷ side) = omega (arith, sum_by-cons (λ (other : RawElem). cond (is_stage other) 1 0) (elem.Stage name) side, stage_count side)
 
-both_true : (a b : Bool) → a ≡ true → b ≡ true → (a && b) ≡ true
-both_true a b x y = rw (x, y) refl
-
 not_fit : (atom : RawAtom) → is_fit atom ≡ false → ¬ IsFitWritten atom
-not_fit atom e is = false≢true (sym e ∙ both_true (nat_le (nodes_written atom) MOST_NODES) (nat_le (depth_written atom) MOST_DEPTH) (le-leb (nodes_written atom) MOST_NODES is.nodes) (le-leb (depth_written atom) MOST_DEPTH is.depth))
+not_fit atom e is = false≢true (sym e ∙ and_from (nat_le (nodes_written atom) MOST_NODES) (nat_le (depth_written atom) MOST_DEPTH) (le-leb (nodes_written atom) MOST_NODES is.nodes) (le-leb (depth_written atom) MOST_DEPTH is.depth))
 
 not_qui : (rule : RawRule) → is_qui_rule rule ≡ false → ¬ IsQuiRule rule
-not_qui rule e is = grind (arith, both_true, eq-eqb, stage_count, is.qui, is.from, is.to)
+not_qui rule e is = grind (arith, and_from, eq-eqb, stage_count, is.qui, is.from, is.to)
 
 none_of : {X : Type 0} (o : Option X) → is_some o ≡ false → o ≡ None
 none_of o e = grind arith
@@ -261,36 +239,26 @@ module _ (source : Source) where
 
   rule_sound : (rule : RuleItem) → In (rules_of source) rule → AreWrong (rule_faults source rule)
   rule_sound rule m =
-      let left = rule.raw.left in
-      let a : List Fault = flat_map (elem_faults source false) left in
-      let b : List Fault = flat_map (elem_faults source true) rule.raw.right in
-      let d : List Fault = premise_faults source false left MOST_PREMISES in
-      let e : List Fault = premise_faults source true left MOST_BACKS in
-      let f : List Fault = right_faults rule.raw.right in
-      let g : List Fault = variable_faults source (atoms_of left) in
       let known = to_contains (rules_of source) rule m in
-      both (a ++ b ++ d ++ e ++ f ++ g) (home_faults rule)
-      (both (a ++ b ++ d ++ e ++ f) g
-      (both (a ++ b ++ d ++ e) f
-      (both (a ++ b ++ d) e
-      (both (a ++ b) d
-      (both a b (each (elem_faults source false) left (left_sound rule m)) (each (elem_faults source true) rule.raw.right (right_sound rule m)))
+      both _ _
+      (both _ _
+      (both _ _
+      (both _ _
+      (both _ _
+      (both _ _ (each (elem_faults source false) rule.raw.left (left_sound rule m)) (each (elem_faults source true) rule.raw.right (right_sound rule m)))
       (past_sound (λ (atom : RawAtom). atom.name.from) (state_premises_of source rule.raw) MOST_PREMISES (λ atom got. IsOver.premise rule atom known got refl)))
       (past_sound (λ (atom : RawAtom). atom.name.from) (backward_of source rule.raw) MOST_BACKS (λ atom got. IsOver.back rule atom known got refl)))
       (past_sound (λ (atom : RawAtom). atom.name.from) (atoms_of rule.raw.right) MOST_RIGHT (λ atom got. IsOver.right rule atom known got refl)))
-      (past_sound (λ (occurrence : Occurrence). occurrence.at.from) (variables_of source (atoms_of left)) MOST_VARIABLES (λ occurrence got. IsOver.rule_variable rule occurrence known got refl)))
+      (past_sound (λ (occurrence : Occurrence). occurrence.at.from) (variables_of source (atoms_of rule.raw.left)) MOST_VARIABLES (λ occurrence got. IsOver.rule_variable rule occurrence known got refl)))
       (home_by rule rule.home m refl)
 
   clause_sound : (clause : ClauseItem) → In (clauses_of source) clause → AreWrong (clause_faults source clause)
   clause_sound clause m =
-      let a : List Fault = clause_atom_faults source clause.head in
-      let b : List Fault = flat_map (clause_atom_faults source) clause.goals in
-      let d : List Fault = past_most (λ (atom : RawAtom). atom.name.from) clause.goals MOST_GOALS in
       let known = to_contains (clauses_of source) clause m in
       let among : (atom : RawAtom) → In (clause.head ∷ clause.goals) atom → In (clause_atoms source) atom = λ atom at. via (λ (other : ClauseItem). other.head ∷ other.goals) (clauses_of source) clause atom m at in
-      both (a ++ b ++ d) (variable_faults source (clause.head ∷ clause.goals))
-      (both (a ++ b) d
-      (both a b (clause_atom_sound clause.head (among clause.head (here clause.head clause.goals))) (each (clause_atom_faults source) clause.goals (λ atom at. clause_atom_sound atom (among atom (in_right (clause.head ∷ []) clause.goals atom at)))))
+      both _ _
+      (both _ _
+      (both _ _ (clause_atom_sound clause.head (among clause.head (here clause.head clause.goals))) (each (clause_atom_faults source) clause.goals (λ atom at. clause_atom_sound atom (among atom (in_right (clause.head ∷ []) clause.goals atom at)))))
       (past_sound (λ (atom : RawAtom). atom.name.from) clause.goals MOST_GOALS (λ atom got. IsOver.goal clause atom known got refl)))
       (past_sound (λ (occurrence : Occurrence). occurrence.at.from) (variables_of source (clause.head ∷ clause.goals)) MOST_VARIABLES (λ occurrence got. IsOver.clause_variable clause occurrence known got refl))
 
@@ -311,7 +279,7 @@ module _ (source : Source) where
       each (listed_faults source true) atoms (λ atom at. listed_by atom (stands_for_context source atom) (λ itself.
       in_right (flat_map (λ (other : ContextItem). other.atoms) (contexts_of source)) _ atom
       (via (λ (other : TraceItem). filter (λ raw. not (stands_for_context source raw)) (start_listed other.start)) (traces_of source) trace atom m
-      (kept_in (λ raw. not (stands_for_context source raw)) (start_listed trace.start) atom (in_same (start_listed trace.start) atoms atom (ap start_listed is) at) (ap not itself)))))
+      (in_filter (λ raw. not (stands_for_context source raw)) (start_listed trace.start) atom (in_same (start_listed trace.start) atoms atom (ap start_listed is) at) (ap not itself)))))
 
   turns_sound : (trace : TraceItem) (limit : Option Span) → In (traces_of source) trace → trace.limit ≡ limit → AreWrong (turns_faults source.text limit)
   turns_sound trace None m is = nothing
@@ -331,12 +299,9 @@ module _ (source : Source) where
   -- the whole
   count_sound : AreWrong (count_faults source)
   count_sound =
-      let preds : List Fault = past_most (λ (pred : PredItem). pred.name.from) (preds_of source) MOST_PREDS in
-      let cons : List Fault = past_most (λ (con : ConItem). con.name.from) (cons_of source) MOST_CONS in
-      let rules_ : List Fault = past_most (λ (rule : RuleItem). rule.raw.at) (rules_of source) MOST_RULES in
-      both (preds ++ cons ++ rules_) (past_most (λ (clause : ClauseItem). clause.head.name.from) (clauses_of source) MOST_CLAUSES)
-      (both (preds ++ cons) rules_
-      (both preds cons
+      both _ _
+      (both _ _
+      (both _ _
       (past_sound (λ (pred : PredItem). pred.name.from) (preds_of source) MOST_PREDS (λ pred got. IsOver.predicate pred got refl))
       (past_sound (λ (con : ConItem). con.name.from) (cons_of source) MOST_CONS (λ con got. IsOver.constructor con got refl)))
       (past_sound (λ (rule : RuleItem). rule.raw.at) (rules_of source) MOST_RULES (λ rule got. IsOver.rule rule got refl)))
@@ -357,32 +322,11 @@ module _ (source : Source) where
       both (start_faults source trace) (two_faults rest) (start_sound trace rest is)
       (λ fault found. let i = image (λ (other : TraceItem). wrong TwoTraces other.at) rest fault found in two_traces trace i.from rest is (to_contains rest i.from i.member) i.is)
 
+  interactive_sound : (name : Span) → In (interactives_of source) name → AreWrong (use_faults source space.Stages name)
+  interactive_sound name at = use_sound space.Stages name (in_right (flat_map (λ (other : RuleItem). stages_named other.raw.left ++ stages_named other.raw.right) (rules_of source)) _ name (in_left (interactives_of source) _ name at))
+
   pub sound : AreWrong (all_faults source)
-  sound =
-      let a : List Fault = flat_map (predicate_faults source) (preds_of source) in
-      let b : List Fault = flat_map (con_faults source) (cons_of source) in
-      let d : List Fault = flat_map (rule_faults source) (rules_of source) in
-      let e : List Fault = flat_map (clause_faults source) (clauses_of source) in
-      let f : List Fault = flat_map (context_faults source) (contexts_of source) in
-      let g : List Fault = flat_map (use_faults source space.Stages) (interactives_of source) in
-      let h : List Fault = flat_map (trace_faults source) (traces_of source) in
-      let i : List Fault = count_faults source in
-      both (a ++ b ++ d ++ e ++ f ++ g ++ h ++ i) (traces_faults source (traces_of source))
-      (both (a ++ b ++ d ++ e ++ f ++ g ++ h) i
-      (both (a ++ b ++ d ++ e ++ f ++ g) h
-      (both (a ++ b ++ d ++ e ++ f) g
-      (both (a ++ b ++ d ++ e) f
-      (both (a ++ b ++ d) e
-      (both (a ++ b) d
-      (both a b (each (predicate_faults source) (preds_of source) pred_sound) (each (con_faults source) (cons_of source) con_sound))
-      (each (rule_faults source) (rules_of source) rule_sound))
-      (each (clause_faults source) (clauses_of source) clause_sound))
-      (each (context_faults source) (contexts_of source) context_sound))
-      (each (use_faults source space.Stages) (interactives_of source) (λ name at. use_sound space.Stages name
-      (in_right (flat_map (λ (other : RuleItem). stages_named other.raw.left ++ stages_named other.raw.right) (rules_of source)) _ name (in_left (interactives_of source) _ name at)))))
-      (each (trace_faults source) (traces_of source) trace_sound))
-      count_sound)
-      (traces_sound (traces_of source) refl)
+  sound = search (both, each, pred_sound, con_sound, rule_sound, clause_sound, context_sound, interactive_sound, trace_sound, count_sound, traces_sound) depth 12
 
 -- The first of all faults, and that what is wrong is found.
 
@@ -400,129 +344,50 @@ when b w fault e is = grind (arith, is_one)
 refuted : {P : Type 0} (b v : Bool) → (b ≡ true → P) → ¬ P → b ≡ v → b ≡ false
 refuted b v h n e = grind arith
 
-both_parts : (a b : Bool) → (a && b) ≡ true → (a ≡ true) × (b ≡ true)
-both_parts a b e = grind arith
-
-or_left : (a b : Bool) → a ≡ true → (a || b) ≡ true
-or_left a b e = grind arith
-
-or_right : (a b : Bool) → b ≡ true → (a || b) ≡ true
-or_right a b e = grind arith
-
-unequal : (a b : ℕ) → a ≢ b → (a == b) ≡ false
-unequal a b ne = refuted (a == b) (a == b) (eqb-true a b) ne refl
-
 is_qui_by : (rule : RawRule) → is_qui_rule rule ≡ true → IsQuiRule rule
-is_qui_by rule e = grind (arith, both_parts, eqb-true, stage_count)
+is_qui_by rule e = grind (arith, and_parts, eqb-true, stage_count)
 
 is_fit_by : (atom : RawAtom) → is_fit atom ≡ true → IsFitWritten atom
-is_fit_by atom e = grind (arith, both_parts (nat_le (nodes_written atom) MOST_NODES) (nat_le (depth_written atom) MOST_DEPTH) e)
+is_fit_by atom e = grind (arith, and_parts (nat_le (nodes_written atom) MOST_NODES) (nat_le (depth_written atom) MOST_DEPTH) e)
 
 module _ (source : Source) (fault : Fault) where
   abbrev Found : Type 0
   Found = In (all_faults source) fault
 
-  -- the parts of all
-  abbrev a : List Fault
-  a = flat_map (predicate_faults source) (preds_of source)
-
-  abbrev b : List Fault
-  b = a ++ flat_map (con_faults source) (cons_of source)
-
-  abbrev d : List Fault
-  d = b ++ flat_map (rule_faults source) (rules_of source)
-
-  abbrev e : List Fault
-  e = d ++ flat_map (clause_faults source) (clauses_of source)
-
-  abbrev f : List Fault
-  f = e ++ flat_map (context_faults source) (contexts_of source)
-
-  abbrev g : List Fault
-  g = f ++ flat_map (use_faults source space.Stages) (interactives_of source)
-
-  abbrev h : List Fault
-  h = g ++ flat_map (trace_faults source) (traces_of source)
-
-  from_h : In h fault → Found
-  from_h m = in_left (h ++ count_faults source) _ fault (in_left h _ fault m)
-
-  from_f : In f fault → Found
-  from_f m = from_h (in_left g _ fault (in_left f _ fault m))
-
-  from_d : In d fault → Found
-  from_d m = from_f (in_left e _ fault (in_left d _ fault m))
-
   of_pred : (pred : PredItem) → In (preds_of source) pred → In (predicate_faults source pred) fault → Found
-  of_pred pred m k = from_d (in_left b _ fault (in_left a _ fault (via (predicate_faults source) (preds_of source) pred fault m k)))
+  of_pred pred m k = search (in_left, in_right, via) depth 12
 
   of_con : (con : ConItem) → In (cons_of source) con → In (con_faults source con) fault → Found
-  of_con con m k = from_d (in_left b _ fault (in_right a _ fault (via (con_faults source) (cons_of source) con fault m k)))
+  of_con con m k = search (in_left, in_right, via) depth 12
 
   of_rule : (rule : RuleItem) → In (rules_of source) rule → In (rule_faults source rule) fault → Found
-  of_rule rule m k = from_d (in_right b _ fault (via (rule_faults source) (rules_of source) rule fault m k))
+  of_rule rule m k = search (in_left, in_right, via) depth 12
 
   of_clause : (clause : ClauseItem) → In (clauses_of source) clause → In (clause_faults source clause) fault → Found
-  of_clause clause m k = from_f (in_left e _ fault (in_right d _ fault (via (clause_faults source) (clauses_of source) clause fault m k)))
+  of_clause clause m k = search (in_left, in_right, via) depth 12
 
   of_context : (context : ContextItem) → In (contexts_of source) context → In (context_faults source context) fault → Found
-  of_context context m k = from_f (in_right e _ fault (via (context_faults source) (contexts_of source) context fault m k))
+  of_context context m k = search (in_left, in_right, via) depth 12
 
   of_interactive : (name : Span) → In (interactives_of source) name → In (use_faults source space.Stages name) fault → Found
-  of_interactive name m k = from_h (in_left g _ fault (in_right f _ fault (via (use_faults source space.Stages) (interactives_of source) name fault m k)))
+  of_interactive name m k = search (in_left, in_right, via) depth 12
 
   of_trace : (trace : TraceItem) → In (traces_of source) trace → In (trace_faults source trace) fault → Found
-  of_trace trace m k = from_h (in_right g _ fault (via (trace_faults source) (traces_of source) trace fault m k))
+  of_trace trace m k = search (in_left, in_right, via) depth 12
 
   of_counts : In (count_faults source) fault → Found
-  of_counts m = in_left (h ++ count_faults source) _ fault (in_right h _ fault m)
+  of_counts m = search (in_left, in_right) depth 12
 
   of_traces : (traces : List TraceItem) → traces_of source ≡ traces → In (traces_faults source traces) fault → Found
-  of_traces traces is m = in_right (h ++ count_faults source) _ fault (in_same _ (traces_faults source traces) fault (ap (traces_faults source) is) m)
+  of_traces traces is m = search (in_right, in_same _ (traces_faults source traces) fault (ap (traces_faults source) is) m)
 
   -- the parts of a rule
   module _ (rule : RuleItem) (m : In (rules_of source) rule) where
-    abbrev ra : List Fault
-    ra = flat_map (elem_faults source false) rule.raw.left
-
-    abbrev rb : List Fault
-    rb = ra ++ flat_map (elem_faults source true) rule.raw.right
-
-    abbrev rd : List Fault
-    rd = rb ++ premise_faults source false rule.raw.left MOST_PREMISES
-
-    abbrev re : List Fault
-    re = rd ++ premise_faults source true rule.raw.left MOST_BACKS
-
-    abbrev rf : List Fault
-    rf = re ++ right_faults rule.raw.right
-
-    abbrev rg : List Fault
-    rg = rf ++ variable_faults source (atoms_of rule.raw.left)
-
-    from_rd : In rd fault → Found
-    from_rd k = of_rule rule m (in_left rg _ fault (in_left rf _ fault (in_left re _ fault (in_left rd _ fault k))))
-
     from_left : (elem_ : RawElem) → In rule.raw.left elem_ → In (elem_faults source false elem_) fault → Found
-    from_left elem_ at k = from_rd (in_left rb _ fault (in_left ra _ fault (via (elem_faults source false) rule.raw.left elem_ fault at k)))
+    from_left elem_ at k = of_rule rule m (search (in_left, in_right, via) depth 12)
 
     from_right : (elem_ : RawElem) → In rule.raw.right elem_ → In (elem_faults source true elem_) fault → Found
-    from_right elem_ at k = from_rd (in_left rb _ fault (in_right ra _ fault (via (elem_faults source true) rule.raw.right elem_ fault at k)))
-
-    from_premises : In (premise_faults source false rule.raw.left MOST_PREMISES) fault → Found
-    from_premises k = from_rd (in_right rb _ fault k)
-
-    from_backs : In (premise_faults source true rule.raw.left MOST_BACKS) fault → Found
-    from_backs k = of_rule rule m (in_left rg _ fault (in_left rf _ fault (in_left re _ fault (in_right rd _ fault k))))
-
-    from_rights : In (right_faults rule.raw.right) fault → Found
-    from_rights k = of_rule rule m (in_left rg _ fault (in_left rf _ fault (in_right re _ fault k)))
-
-    from_variables : In (variable_faults source (atoms_of rule.raw.left)) fault → Found
-    from_variables k = of_rule rule m (in_left rg _ fault (in_right rf _ fault k))
-
-    from_home : In (home_faults rule) fault → Found
-    from_home k = of_rule rule m (in_right rg _ fault k)
+    from_right elem_ at k = of_rule rule m (search (in_left, in_right, via) depth 12)
 
   -- an atom of a side
   side_atom_in : (made : Bool) (elem_ : RawElem) (atom : RawAtom) → In (atoms_in elem_) atom → In (side_atom_faults source made atom) fault → In (elem_faults source made elem_) fault
@@ -535,18 +400,10 @@ module _ (source : Source) (fault : Fault) where
   of_made : (atom : RawAtom) → In (made_atoms source) atom → In (side_atom_faults source true atom) fault → Found
   of_made atom at k = grind (arith, through, from_right, side_atom_in)
 
-  -- an atom of a clause
-  abbrev atoms_part : ClauseItem → List Fault
-  atoms_part clause = clause_atom_faults source clause.head ++ flat_map (clause_atom_faults source) clause.goals
-
-  abbrev goals_part : ClauseItem → List Fault
-  goals_part clause = atoms_part clause ++ past_most (λ goal. goal.name.from) clause.goals MOST_GOALS
-
   of_clause_atom : (atom : RawAtom) → In (clause_atoms source) atom → In (clause_atom_faults source atom) fault → Found
   of_clause_atom atom at k =
       let clause = through (λ (clause : ClauseItem). clause.head ∷ clause.goals) (clauses_of source) atom at in
-      of_clause clause.from clause.member (in_left (goals_part clause.from) _ fault (in_left (atoms_part clause.from) _ fault
-      (via (clause_atom_faults source) (clause.from.head ∷ clause.from.goals) atom fault clause.given k)))
+      of_clause clause.from clause.member (search (in_left, via (clause_atom_faults source) (clause.from.head ∷ clause.from.goals) atom fault clause.given k))
 
   -- an atom of a state
   told_by : (stands : Bool) (atom : RawAtom) → not stands ≡ true → In (state_faults source atom) fault → In (let found : List Fault = if stands then [] else state_faults source atom in found) fault
@@ -556,7 +413,7 @@ module _ (source : Source) (fault : Fault) where
   begun_in start atom at itself k = grind (arith, in_nil, via, told_by)
 
   from_begin : (trace : TraceItem) → In (traces_of source) trace → In (begin_faults source trace.start) fault → Found
-  from_begin trace m k = of_trace trace m (in_left (use_faults source space.Stages trace.stage ++ begin_faults source trace.start) _ fault (in_right (use_faults source space.Stages trace.stage) _ fault k))
+  from_begin trace m k = of_trace trace m (search (in_left, in_right))
 
   of_state : (atom : RawAtom) → In (state_atoms source) atom → In (state_faults source atom) fault → Found
   of_state atom at k =
@@ -564,15 +421,15 @@ module _ (source : Source) (fault : Fault) where
       (λ c. let context = through (λ (context : ContextItem). context.atoms) (contexts_of source) atom c in
       of_context context.from context.member (via (listed_faults source false) context.from.atoms atom fault context.given k))
       (λ t. let trace = through (λ (trace : TraceItem). filter (λ raw. not (stands_for_context source raw)) (start_listed trace.start)) (traces_of source) atom t in
-      let kept = kept_from (λ raw. not (stands_for_context source raw)) (start_listed trace.from.start) atom trace.given in
+      let kept = from_filter (λ raw. not (stands_for_context source raw)) (start_listed trace.from.start) atom trace.given in
       from_begin trace.from trace.member (begun_in trace.from.start atom kept.0 kept.1 k))
       (in_parts (flat_map (λ (context : ContextItem). context.atoms) (contexts_of source)) _ atom at)
 
   names_state : (atom : RawAtom) → In (names_faults source true atom) fault → In (state_faults source atom) fault
-  names_state atom k = in_left (names_faults source true atom ++ back_faults source atom) _ fault (in_left (names_faults source true atom) _ fault k)
+  names_state atom k = search in_left
 
   back_state : (atom : RawAtom) → In (back_faults source atom) fault → In (state_faults source atom) fault
-  back_state atom k = in_left (names_faults source true atom ++ back_faults source atom) _ fault (in_right (names_faults source true atom) _ fault k)
+  back_state atom k = search (in_left, in_right)
 
   -- any atom, by the names that it uses
   of_atom : (atom : RawAtom) → In (atoms_written source) atom → ((in_state : Bool) → In (names_faults source in_state atom) fault) → Found
@@ -640,7 +497,7 @@ module _ (source : Source) (fault : Fault) where
 
   -- numbers of arguments
   arity_in : (known : Option ℕ) (n args at : ℕ) → known ≡ Some n → args ≢ n → fault ≡ wrong WrongArity at → In (arity_faults known args at) fault
-  arity_in known n args at is ne e_ = in_same (arity_faults known args at) (arity_faults (Some n) args at) fault (ap (λ (o : Option ℕ). arity_faults o args at) is) (unless (args == n) (wrong WrongArity at) fault (unequal args n ne) e_)
+  arity_in known n args at is ne e_ = in_same (arity_faults known args at) (arity_faults (Some n) args at) fault (ap (λ (o : Option ℕ). arity_faults o args at) is) (unless (args == n) (wrong WrongArity at) fault (ne_eqb args n ne) e_)
 
   -- variables and kinds
   open_in : (node : RawNode) (its : RawKind) → its ≢ kind.App → fault ≡ wrong VarInContext node.at.from → In (kind_faults source true its node) fault
@@ -676,36 +533,18 @@ module _ (source : Source) (fault : Fault) where
       (when (nat_lt MOST_COPIES (length (counting source (start_atoms source trace.start))) || nat_lt MOST_STATE_NODES (sum_by nodes_written (counting source (start_atoms source trace.start)))) (wrong OverLimit trace.at) fault more_
       (e_ ∙ ap (wrong OverLimit) here_)))
 
-  -- the counts
-  abbrev cp : List Fault
-  cp = past_most (λ pred. pred.name.from) (preds_of source) MOST_PREDS
-
-  abbrev cc_ : List Fault
-  cc_ = cp ++ past_most (λ con. con.name.from) (cons_of source) MOST_CONS
-
-  abbrev cr : List Fault
-  cr = cc_ ++ past_most (λ rule. rule.raw.at) (rules_of source) MOST_RULES
-
   over_all : (at : ℕ) → IsOver source at → fault ≡ wrong OverLimit at → Found
   over_all at (IsOver.argument args name m got is) e_ = of_arguments args (from_contains (arguments_of source) args m) (many_arguments args name at got is e_)
-  over_all at (IsOver.premise rule atom m got is) e_ =
-      from_premises rule (from_contains (rules_of source) rule m) (past_in (λ (other : RawAtom). other.name.from) (state_premises_of source rule.raw) MOST_PREMISES atom at got is e_)
-  over_all at (IsOver.back rule atom m got is) e_ =
-      from_backs rule (from_contains (rules_of source) rule m) (past_in (λ (other : RawAtom). other.name.from) (backward_of source rule.raw) MOST_BACKS atom at got is e_)
-  over_all at (IsOver.right rule atom m got is) e_ =
-      from_rights rule (from_contains (rules_of source) rule m) (past_in (λ (other : RawAtom). other.name.from) (atoms_of rule.raw.right) MOST_RIGHT atom at got is e_)
-  over_all at (IsOver.goal clause atom m got is) e_ =
-      of_clause clause (from_contains (clauses_of source) clause m) (in_left (goals_part clause) _ fault (in_right (atoms_part clause) _ fault
-      (past_in (λ (other : RawAtom). other.name.from) clause.goals MOST_GOALS atom at got is e_)))
-  over_all at (IsOver.rule_variable rule occurrence m got is) e_ =
-      from_variables rule (from_contains (rules_of source) rule m) (past_in (λ (other : Occurrence). other.at.from) (variables_of source (atoms_of rule.raw.left)) MOST_VARIABLES occurrence at got is e_)
-  over_all at (IsOver.clause_variable clause occurrence m got is) e_ =
-      of_clause clause (from_contains (clauses_of source) clause m) (in_right (goals_part clause) _ fault
-      (past_in (λ (other : Occurrence). other.at.from) (variables_of source (clause.head ∷ clause.goals)) MOST_VARIABLES occurrence at got is e_))
-  over_all at (IsOver.predicate pred got is) e_ = of_counts (in_left cr _ fault (in_left cc_ _ fault (in_left cp _ fault (past_in (λ (other : PredItem). other.name.from) (preds_of source) MOST_PREDS pred at got is e_))))
-  over_all at (IsOver.constructor con got is) e_ = of_counts (in_left cr _ fault (in_left cc_ _ fault (in_right cp _ fault (past_in (λ (other : ConItem). other.name.from) (cons_of source) MOST_CONS con at got is e_))))
-  over_all at (IsOver.rule rule got is) e_ = of_counts (in_left cr _ fault (in_right cc_ _ fault (past_in (λ (other : RuleItem). other.raw.at) (rules_of source) MOST_RULES rule at got is e_)))
-  over_all at (IsOver.clause clause got is) e_ = of_counts (in_right cr _ fault (past_in (λ (other : ClauseItem). other.head.name.from) (clauses_of source) MOST_CLAUSES clause at got is e_))
+  over_all at (IsOver.premise rule atom m got is) e_ = of_rule rule (from_contains (rules_of source) rule m) (search (in_left, in_right, past_in (λ (other : RawAtom). other.name.from) (state_premises_of source rule.raw) MOST_PREMISES atom at got is e_) depth 12)
+  over_all at (IsOver.back rule atom m got is) e_ = of_rule rule (from_contains (rules_of source) rule m) (search (in_left, in_right, past_in (λ (other : RawAtom). other.name.from) (backward_of source rule.raw) MOST_BACKS atom at got is e_) depth 12)
+  over_all at (IsOver.right rule atom m got is) e_ = of_rule rule (from_contains (rules_of source) rule m) (search (in_left, in_right, past_in (λ (other : RawAtom). other.name.from) (atoms_of rule.raw.right) MOST_RIGHT atom at got is e_) depth 12)
+  over_all at (IsOver.goal clause atom m got is) e_ = of_clause clause (from_contains (clauses_of source) clause m) (search (in_left, in_right, past_in (λ (other : RawAtom). other.name.from) clause.goals MOST_GOALS atom at got is e_) depth 12)
+  over_all at (IsOver.rule_variable rule occurrence m got is) e_ = of_rule rule (from_contains (rules_of source) rule m) (search (in_left, in_right, past_in (λ (other : Occurrence). other.at.from) (variables_of source (atoms_of rule.raw.left)) MOST_VARIABLES occurrence at got is e_) depth 12)
+  over_all at (IsOver.clause_variable clause occurrence m got is) e_ = of_clause clause (from_contains (clauses_of source) clause m) (search (in_left, in_right, past_in (λ (other : Occurrence). other.at.from) (variables_of source (clause.head ∷ clause.goals)) MOST_VARIABLES occurrence at got is e_) depth 12)
+  over_all at (IsOver.predicate pred got is) e_ = of_counts (search (in_left, in_right, past_in (λ (other : PredItem). other.name.from) (preds_of source) MOST_PREDS pred at got is e_) depth 12)
+  over_all at (IsOver.constructor con got is) e_ = of_counts (search (in_left, in_right, past_in (λ (other : ConItem). other.name.from) (cons_of source) MOST_CONS con at got is e_) depth 12)
+  over_all at (IsOver.rule rule got is) e_ = of_counts (search (in_left, in_right, past_in (λ (other : RuleItem). other.raw.at) (rules_of source) MOST_RULES rule at got is e_) depth 12)
+  over_all at (IsOver.clause clause got is) e_ = of_counts (search (in_left, in_right, past_in (λ (other : ClauseItem). other.head.name.from) (clauses_of source) MOST_CLAUSES clause at got is e_) depth 12)
   over_all at (IsOver.unfit atom m n is) e_ =
       of_state atom (from_contains (state_atoms source) atom m) (in_right (names_faults source true atom ++ back_faults source atom) _ fault
       (unless (is_fit atom) (wrong OverLimit atom.name.from) fault (refuted (is_fit atom) (is_fit atom) (is_fit_by atom) n refl) (e_ ∙ ap (wrong OverLimit) is)))
@@ -736,7 +575,7 @@ module _ (source : Source) (fault : Fault) where
       inr (of_state atom.from atom.member (names_state atom.from (in_right (pred_faults source atom.from) _ fault (via (node_faults source true) atom.from.nodes node fault atom.given (open_in node node.kind apart is)))))
   complete (backward_in_state atom c back is) = grind (arith, of_made, in_right, back_in atom back is, of_state, back_state atom (back_in atom back is), in_parts, from_contains (made_atoms source ++ state_atoms source) atom c)
   complete (linear_in_clause atom its c named n is) = grind (arith, of_clause_atom, from_contains (clause_atoms source) atom c, in_right, in_same, linear_one its atom.name.from n is)
-  complete (bad_qui rule c home n is) = inr (from_home rule (from_contains (rules_of source) rule c) (home_in rule home n is))
+  complete (bad_qui rule c home n is) = inr (of_rule rule (from_contains (rules_of source) rule c) (in_right _ (home_faults rule) fault (home_in rule home n is)))
   complete (no_trace traces is) = inr (of_traces [] traces (is_one _ fault is))
   complete (two_traces first trace rest traces c is) =
       inr (of_traces (first ∷ rest) traces (in_right (start_faults source first) _ fault

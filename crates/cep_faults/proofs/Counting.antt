@@ -2,17 +2,16 @@
 use Rattle.std.proofs.Common.{◌≡◌, ℕ, zero, suc, ◌==◌, Bool, true, false, ◌&&◌, ◌||◌, not, if◌then◌else◌, List, [], ◌∷◌, ◌++◌, filter, refl, sym, ap, ◌∙◌, append_assoc, arith, ◌⊎◌, ⊎_elim, inl, inr, ◌+◌, ◌<◌, min, length, take, get_or, map, Some, subst, append-nil, length-append, Contains}
 use Rattle.std.specs.Str.{bytes_eq}
 use Rattle.std.specs.List.{flat_map, list_any}
-use Rattle.std.proofs.lemmas.Bool.{eqb-true, eq-eqb}
+use Rattle.std.proofs.lemmas.Bool.{eqb-true, eq-eqb, and_parts, and_from}
 use Rattle.std.proofs.lemmas.List.Elements.{filter-append}
 use Rattle.std.proofs.lemmas.Slice.Eq.{bytes_eq-Decides}
 use Rattle.cep_parse.specs.declared.raw.RawNode.{RawNode}
 use Rattle.cep_parse.specs.declared.raw.RawAtom.{RawAtom}
 use Rattle.cep_source.specs.Items.{Source, said}
-use Rattle.cep_source.specs.Starts.{is_of_fact, is_node_alike, are_nodes_alike, is_written_alike, counting_behind, listed_in, counting}
+use Rattle.cep_source.specs.Starts.{is_of_fact, are_nodes_alike, is_written_alike, counting_behind, listed_in, counting}
 use Rattle.cep_faults.specs.Counted.{facts_counting, cut, total_size, written_size, others, nothing_counted, IsPassed, IsCountOf}
-use Rattle.cep_faults.specs.FactKeys.{mark, stop, name_key, count_key, node_key, atom_key}
+use Rattle.cep_faults.specs.FactKeys.{name_key, count_key, node_key, atom_key}
 use Rattle.std.proofs.lemmas.List.{map-append, take_more}
-use Rattle.std.proofs.lemmas.Grind.{flat_map-append}
 use Rattle.std.proofs.lemmas.List.Sums.{sum_by-append}
 use Rattle.cep_base.proofs.Bytes.{any_map}
 use Rattle.cep_base.proofs.Elements.{contains_none, contains_cases, contains_first, contains_behind, contains_left, contains_right}
@@ -21,70 +20,41 @@ use Rattle.cep_source.specs.Uses.{stands_for_context}
 use Rattle.cep_faults.specs.declared.traces.Counted.{Counted}
 use Rattle.cep_faults.specs.declared.traces.Size.{Size}
 
-both_true : (a b : Bool) → (a && b) ≡ true → (a ≡ true) × (b ≡ true)
-both_true a b e = grind arith
-
 -- Keys
-
-first_byte : (a b : ℕ) (xs ys : List ℕ) → a ∷ xs ≡ b ∷ ys → a ≡ b
-first_byte a b xs ys e = cc
-
-stop_or_mark : (xs ys : List ℕ) → stop ∷ xs ≡ mark ∷ ys → ⊥
-stop_or_mark xs ys e = let here : ◌≡◌ {A = ℕ} 46 43 = first_byte 46 43 xs ys e in omega arith
-
-mark_or_stop : (xs ys : List ℕ) → mark ∷ xs ≡ stop ∷ ys → ⊥
-mark_or_stop xs ys e = let here : ◌≡◌ {A = ℕ} 43 46 = first_byte 43 46 xs ys e in omega arith
 
 -- a name's key ends by itself
 name_again : (one other rest rest' : List ℕ) → name_key one ++ rest ≡ name_key other ++ rest' → (one ≡ other) × (rest ≡ rest')
 name_again [] [] rest rest' e = (refl, cc)
 name_again (x ∷ one) (y ∷ other) rest rest' e = grind (arith, name_again one other rest rest' cc)
-name_again one other rest rest' e = grind (arith, stop_or_mark, mark_or_stop)
+name_again one other rest rest' e = grind arith
 
 -- and so does that of a number
 count_again : (n m : ℕ) (rest rest' : List ℕ) → count_key n ++ rest ≡ count_key m ++ rest' → (n ≡ m) × (rest ≡ rest')
 count_again zero zero rest rest' e = (refl, cc)
 count_again (suc n) (suc m) rest rest' e = let more = count_again n m rest rest' cc in (ap suc more.0, more.1)
-count_again n m rest rest' e = grind (arith, stop_or_mark, mark_or_stop)
-
-equal_bytes : (one other : List ℕ) → one ≡ other → bytes_eq one other ≡ true
-equal_bytes one other is = (bytes_eq-Decides one other).1 is
-
-both_hold : (a b : Bool) → a ≡ true → b ≡ true → (a && b) ≡ true
-both_hold a b one other = ap (λ x. x && b) one ∙ other
+count_again n m rest rest' e = grind arith
 
 module _ (source : Source) where
+  no_key : (name rest : List ℕ) → name_key name ++ rest ≡ [] → ⊥
+  no_key [] rest e = cc
+  no_key (x ∷ name) rest e = cc
+
   nodes_again : (ones others : List RawNode) → flat_map (node_key source) ones ≡ flat_map (node_key source) others → are_nodes_alike source ones others ≡ true
   nodes_again [] [] e = refl
-  nodes_again [] (other ∷ others) e = absurd (no_key (said source other.at) (count_key other.args ++ flat_map (node_key source) others) (e ∙ append_assoc (name_key (said source other.at)) (count_key other.args) (flat_map (node_key source) others)))
-    where
-      no_key : (name rest : List ℕ) → [] ≡ name_key name ++ rest → ⊥
-      no_key [] rest e = cc
-      no_key (x ∷ name) rest e = cc
-  nodes_again (one ∷ ones) [] e = absurd (no_key (said source one.at) (count_key one.args ++ flat_map (node_key source) ones) (sym e ∙ append_assoc (name_key (said source one.at)) (count_key one.args) (flat_map (node_key source) ones)))
-    where
-      no_key : (name rest : List ℕ) → [] ≡ name_key name ++ rest → ⊥
-      no_key [] rest e = cc
-      no_key (x ∷ name) rest e = cc
+  nodes_again [] (other ∷ others) e = grind (arith, append_assoc, no_key (said source other.at) (count_key other.args ++ flat_map (node_key source) others))
+  nodes_again (one ∷ ones) [] e = grind (arith, append_assoc, no_key (said source one.at) (count_key one.args ++ flat_map (node_key source) ones))
   nodes_again (one ∷ ones) (other ∷ others) e =
-      let first = name_again (said source one.at) (said source other.at) (count_key one.args ++ flat_map (node_key source) ones) (count_key other.args ++ flat_map (node_key source) others)
-      (sym (append_assoc (name_key (said source one.at)) (count_key one.args) (flat_map (node_key source) ones)) ∙ e ∙ append_assoc (name_key (said source other.at)) (count_key other.args) (flat_map (node_key source) others)) in
+      let first = name_again (said source one.at) (said source other.at) (count_key one.args ++ flat_map (node_key source) ones) (count_key other.args ++ flat_map (node_key source) others) (grind (arith, append_assoc)) in
       let second = count_again one.args other.args (flat_map (node_key source) ones) (flat_map (node_key source) others) first.1 in
-      both_hold (is_node_alike source one other) (are_nodes_alike source ones others)
-      (both_hold (bytes_eq (said source one.at) (said source other.at)) (one.args == other.args) (equal_bytes (said source one.at) (said source other.at) first.0) (eq-eqb one.args other.args second.0))
-      (nodes_again ones others second.1)
+      grind (arith, first.0, second.0, bytes_eq-Decides, eq-eqb, nodes_again ones others second.1)
 
   nodes_keyed : (ones others : List RawNode) → are_nodes_alike source ones others ≡ true → flat_map (node_key source) ones ≡ flat_map (node_key source) others
-  nodes_keyed (one ∷ ones) (other ∷ others) alike =
-      let parts = both_true (is_node_alike source one other) (are_nodes_alike source ones others) alike in
-      let node_ = both_true (bytes_eq (said source one.at) (said source other.at)) (one.args == other.args) parts.0 in
-      let name = (bytes_eq-Decides (said source one.at) (said source other.at)).0 node_.0 in
-      λ i. (name_key (name i) ++ count_key ((eqb-true one.args other.args node_.1) i)) ++ (nodes_keyed ones others parts.1) i
+  nodes_keyed (one ∷ ones) (other ∷ others) alike = grind (arith, bytes_eq-Decides, eqb-true, nodes_keyed ones others)
   nodes_keyed ones others alike = grind arith
 
   -- keys are equal if and only if two atoms are written alike
   pub keys_tell : (one other : RawAtom) → bytes_eq (atom_key source one) (atom_key source other) ≡ is_written_alike source one other
-  keys_tell one other = grind (arith, bytes_eq-Decides, name_again, count_again, both_hold, equal_bytes, eq-eqb, nodes_again, both_true, eqb-true, nodes_keyed)
+  keys_tell one other = grind (arith, bytes_eq-Decides, name_again, count_again, and_from, eq-eqb, nodes_again, and_parts, eqb-true, nodes_keyed)
 
   -- Facts that count
 
@@ -113,7 +83,7 @@ module _ (source : Source) where
 
   -- atoms that are written alike are facts alike
   fact_alike : (a x : RawAtom) → is_written_alike source a x ≡ true → is_of_fact source a ≡ is_of_fact source x
-  fact_alike a x alike = grind (arith, both_true, bytes_eq-Decides)
+  fact_alike a x alike = grind (arith, and_parts, bytes_eq-Decides)
 
   pub among_facts : (a : RawAtom) (atoms : List RawAtom) → is_of_fact source a ≡ true → list_any (is_written_alike source a) atoms ≡ list_any (is_written_alike source a) (filter (is_of_fact source) atoms)
   among_facts a [] fact = refl
@@ -135,9 +105,6 @@ or_move p q r = grind arith
 
 or_none : (b : Bool) → (b || false) ≡ b
 or_none b = grind arith
-
-both_parts : (a b : Bool) → (a && b) ≡ true → (a ≡ true) × (b ≡ true)
-both_parts a b e = grind arith
 
 same_bytes : (name : List ℕ) → bytes_eq name name ≡ true
 same_bytes name = (bytes_eq-Decides name name).1 refl
@@ -187,7 +154,7 @@ module _ (source : Source) where
 
   seen_first : (b : Bool) (before atoms : List RawAtom) (y x : RawAtom) → (is_of_fact source y && list_any (alike y) before) ≡ b → y ≡ x
       → (list_any (alike x) (if b then counting_behind source before atoms else y ∷ counting_behind source (y ∷ before) atoms) || list_any (alike x) before) ≡ true
-  seen_first b before atoms y x is same = grind (arith, alike, both_parts, or_true, itself)
+  seen_first b before atoms y x is same = grind (arith, alike, and_parts, or_true, itself)
 
   seen_later : (b : Bool) (before atoms : List RawAtom) (y x : RawAtom) → is_seen before atoms x ≡ true → is_seen (y ∷ before) atoms x ≡ true
       → (list_any (alike x) (if b then counting_behind source before atoms else y ∷ counting_behind source (y ∷ before) atoms) || list_any (alike x) before) ≡ true
@@ -202,14 +169,10 @@ module _ (source : Source) where
 
   -- so a fact that was listed is not new
   not_new : (atoms : List RawAtom) (x : RawAtom) → Contains atoms x → is_new source atoms x ≡ false
-  not_new atoms x there = by (is_of_fact source x) refl
-    where
-      by : (f : Bool) → is_of_fact source x ≡ f → (f && not (list_any (alike x) (facts_counting source atoms))) ≡ false
-      by false fact = refl
-      by true fact = ap not (sym (among_facts source x (counting source atoms) fact) ∙ sym (or_none (list_any (alike x) (counting source atoms))) ∙ seen_alike [] atoms x there)
+  not_new atoms x there = grind (arith, among_facts source x (counting source atoms), or_none, seen_alike [] atoms x there)
 
   same_facts : (atoms : List RawAtom) (a : RawAtom) → is_new source atoms a ≡ false → facts_counting source (atoms ++ a ∷ []) ≡ facts_counting source atoms
-  same_facts atoms a old = one_fact source atoms a ∙ ap (λ (b : Bool). facts_counting source atoms ++ (if b then a ∷ [] else [])) old ∙ append-nil (facts_counting source atoms)
+  same_facts atoms a old = grind (arith, one_fact source atoms a, append-nil)
 
   repeated : (before more : List RawAtom) → ((raw : RawAtom) → Contains more raw → Contains before raw) → facts_counting source (before ++ more) ≡ facts_counting source before
   repeated before [] among = ap (facts_counting source) (append-nil before)
@@ -220,32 +183,20 @@ module _ (source : Source) where
 
   -- ---- what counts
 
-  one_more : (atoms : List RawAtom) (a : RawAtom) → counting source (atoms ++ a ∷ []) ≡ counting source atoms ++ (if is_of_fact source a && list_any (alike a) (counting source atoms) then [] else a ∷ [])
-  one_more atoms a = one_counts source [] atoms a ∙ ap (λ (b : Bool). counting source atoms ++ (if is_of_fact source a && b then [] else a ∷ [])) (or_none (list_any (alike a) (counting source atoms)))
-
   -- an atom that is no fact counts, a fact that was listed does not, another does
   counts : (atoms : List RawAtom) (a : RawAtom) → (is_of_fact source a && list_any (alike a) (counting source atoms)) ≡ false → counting source (atoms ++ a ∷ []) ≡ counting source atoms ++ a ∷ []
-  counts atoms a is = one_more atoms a ∙ ap (λ (b : Bool). counting source atoms ++ (if b then [] else a ∷ [])) is
+  counts atoms a is = grind (arith, one_counts source [] atoms a, or_none)
 
   counts_not : (atoms : List RawAtom) (a : RawAtom) → (is_of_fact source a && list_any (alike a) (counting source atoms)) ≡ true → counting source (atoms ++ a ∷ []) ≡ counting source atoms
-  counts_not atoms a is = one_more atoms a ∙ ap (λ (b : Bool). counting source atoms ++ (if b then [] else a ∷ [])) is ∙ append-nil (counting source atoms)
+  counts_not atoms a is = grind (arith, one_counts source [] atoms a, or_none, append-nil)
 
   -- atoms that were listed before: all but facts count again
   again_counting : (before more : List RawAtom) → ((raw : RawAtom) → Contains more raw → Contains before raw) → counting source (before ++ more) ≡ counting source before ++ others source more
   again_counting before [] among = ap (counting source) (append-nil before) ∙ sym (append-nil (counting source before))
   again_counting before (m ∷ more) among =
-      ap (counting source) (sym (append_assoc before (m ∷ []) more))
-      ∙ again_counting (before ++ m ∷ []) more (λ raw there. contains_left before (m ∷ []) raw (among raw (contains_behind m more raw there)))
-      ∙ by (is_of_fact source m) refl
-    where
-      seen : list_any (alike m) (counting source before) ≡ true
-      seen = sym (or_none (list_any (alike m) (counting source before))) ∙ seen_alike [] before m (among m (contains_first m more))
-
-      by : (f : Bool) → is_of_fact source m ≡ f → counting source (before ++ m ∷ []) ++ others source more ≡ counting source before ++ (if not f then m ∷ others source more else others source more)
-      by true fact = ap (λ xs. xs ++ others source more) (counts_not before m (ap (λ (b : Bool). b && list_any (alike m) (counting source before)) fact ∙ seen))
-      by false fact =
-          ap (λ xs. xs ++ others source more) (counts before m (ap (λ (b : Bool). b && list_any (alike m) (counting source before)) fact))
-          ∙ append_assoc (counting source before) (m ∷ []) (others source more)
+      let rest = again_counting (before ++ m ∷ []) more (λ raw there. contains_left before (m ∷ []) raw (among raw (contains_behind m more raw there))) in
+      let seen = seen_alike [] before m (among m (contains_first m more)) in
+      grind (arith, append_assoc, rest, seen, or_none, counts before m, counts_not before m)
 
   told : (atoms : List RawAtom) (a : RawAtom) (counted : Counted) → IsCountOf source atoms counted → has_name counted.facts (atom_key source a) ≡ list_any (alike a) (facts_counting source atoms)
   told atoms a counted so_far =
@@ -331,9 +282,6 @@ module _ (source : Source) where
 
 pub first_more : (atoms : List RawAtom) (i : ℕ) (atom : RawAtom) → i < length atoms → atom ≡ get_or atoms i atom → take (i + 1) atoms ≡ take i atoms ++ atom ∷ []
 first_more atoms i atom within at = take_more atoms i atom within ∙ ap (λ y. take i atoms ++ y ∷ []) (sym at)
-
-pub listed_more : (g : RawAtom → List RawAtom) (atoms : List RawAtom) (i : ℕ) (atom : RawAtom) → i < length atoms → atom ≡ get_or atoms i atom → flat_map g (take (i + 1) atoms) ≡ flat_map g (take i atoms) ++ g atom
-listed_more g atoms i atom within at = rw (first_more atoms i atom within at, flat_map-append g (take i atoms) (atom ∷ []), append-nil (g atom))
 
 -- what an atom in braces lists
 abbrev pub listed_by : Source → RawAtom → List RawAtom

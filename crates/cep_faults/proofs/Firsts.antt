@@ -3,8 +3,8 @@ use Rattle.std.proofs.Common.{◌≡◌, ℕ, Bool, true, false, List, [], ◌�
 use Rattle.std.specs.List.{list_any, find, flat_map, slice_get, repeat}
 use Rattle.std.specs.Option.{option_map, MatchOption, IsSomeAnd, IfSome, unwrap_or}
 use Rattle.cep_faults.specs.Faults.{lack_faults, arity_faults, past, past_most, is_as, variable_faults}
-use Rattle.std.proofs.lemmas.Grind.{flat_map-append, common_steps}
-use Rattle.std.proofs.lemmas.List.{take_all, take_more, take-append-drop, take_more_set, map-append}
+use Rattle.std.proofs.lemmas.Grind.{flat_map-append}
+use Rattle.std.proofs.lemmas.List.{take_all, take_more, take-append-drop, take_more_set, map-append, nil_from_length}
 use Rattle.std.proofs.lemmas.List.Folds.{flat_map-map}
 use Rattle.cep_refusal.specs.declared.fault.Fault.{Fault}
 use Rattle.cep_refusal.specs.First.{standing, first_of, first_in, wrong}
@@ -31,6 +31,7 @@ use Rattle.cep_refusal.specs.declared.reason.Reason.TheVariants.{NoTrace, TwoTra
 use Rattle.cep_source.specs.declared.items.TraceRef.{TraceRef}
 use Rattle.cep_source.specs.Kept.{trace_item}
 use Rattle.cep_faults.specs.Totals.{start_faults, two_faults, traces_faults}
+use Rattle.cep_base.proofs.Lists.{get_kept}
 
 module _ {X Y : Type 0} (p : Y → Bool) (f : X → Y) where
   there : (xs : List X) (x : X) → Some x ≡ find (λ y. p (f y)) xs → list_any p (map f xs) ≡ true
@@ -66,10 +67,8 @@ followed faults more_ old item new a b is = is ∙ ap (λ (o : Option Fault). fi
 pub noted : {X : Type 0} (f : X → List Fault) (front : List Fault) (xs : List X) (i : ℕ) (d x : X) (old item new : Option Fault) → i < length xs → x ≡ get_or xs i d
     → old ≡ first_in (front ++ flat_map f (take i xs)) → item ≡ first_in (f x) → new ≡ first_of old item → new ≡ first_in (front ++ flat_map f (take (i + 1) xs))
 noted f front xs i d x old item new h at was is_item is =
-    followed (front ++ flat_map f (take i xs)) (f x) old item new was is_item is
-    ∙ sym (ap (λ ys. first_in (front ++ flat_map f ys)) (take_more xs i d h ∙ ap (λ y. take i xs ++ y ∷ []) (sym at))
-    ∙ ap (λ ys. first_in (front ++ ys)) (flat_map-append f (take i xs) (x ∷ []) ∙ ap (λ ys. flat_map f (take i xs) ++ ys) (append-nil (f x)))
-    ∙ ap first_in (sym (append_assoc front (flat_map f (take i xs)) (f x))))
+    let more : flat_map f (take (i + 1) xs) ≡ flat_map f (take i xs) ++ f x = cc (take_more xs i d h, flat_map-append f (take i xs) (get_or xs i d ∷ []), append-nil (f (get_or xs i d)), at) in
+    rw (more, ← append_assoc front (flat_map f (take i xs)) (f x)) (followed (front ++ flat_map f (take i xs)) (f x) old item new was is_item is)
 
 -- the same, where items are copied
 pub noted_at : {X : Type 0} (f : X → List Fault) (front : List Fault) (xs : List X) (i : ℕ) (d : X) (old item new : Option Fault) → i < length xs
@@ -102,10 +101,6 @@ pub slice_get_at : {X : Type 0} (xs : List X) (y : X) (ys : List X) (n : ℕ) �
 slice_get_at (x ∷ xs) y ys (suc n) e = slice_get_at xs y ys n (omega (arith, e))
 slice_get_at xs y ys n e = grind arith
 
-pub slice_get_kept : {X : Type 0} (xs ys : List X) (n : ℕ) (x : X) → slice_get xs n ≡ Some x → slice_get (xs ++ ys) n ≡ Some x
-slice_get_kept (y ∷ xs) ys (suc n) x e = slice_get_kept xs ys n x e
-slice_get_kept xs ys n x e = grind arith
-
 -- what one more item gives
 pub given_more : {X : Type 0} {Y : Type 0} (f : X → List Y) (xs : List X) (i : ℕ) (x : X) → i < length xs → x ≡ get_or xs i x → flat_map f (take (i + 1) xs) ≡ flat_map f (take i xs) ++ f x
 given_more f xs i x h at = cc (take_more xs i x h, flat_map-append f (take i xs) (get_or xs i x ∷ []), append-nil (f (get_or xs i x)), at)
@@ -114,18 +109,15 @@ given_more f xs i x h at = cc (take_more xs i x h, flat_map-append f (take i xs)
 pub given_rest : {X : Type 0} {Y : Type 0} (f : X → List Y) (xs : List X) (i : ℕ) → flat_map f xs ≡ flat_map f (take i xs) ++ flat_map f (drop i xs)
 given_rest f xs i = ap (flat_map f) (sym (take-append-drop i xs)) ∙ flat_map-append f (take i xs) (drop i xs)
 
-pub take_past : {X : Type 0} (xs : List X) (i : ℕ) → length xs ≤ i → take i xs ≡ xs
-take_past xs i h = grind (arith, common_steps)
-
 module _ {X Y : Type 0} (f : X → List Y) (place : Y → ℕ) where
   -- the first one too many is found
   pub past_found : (xs : List X) (i : ℕ) (x : X) (y : Y) (before most : ℕ) (result : Option Fault) → i < length xs → x ≡ get_or xs i x
       → before ≡ length (flat_map f (take i xs)) → f x ≡ y ∷ [] → before ≡ most → result ≡ first_in (past (Some (place y))) → result ≡ first_in (past_most place (flat_map f xs) most)
-  past_found xs i x y before most result h at was one reached is = grind (arith, given_rest f xs (i + 1), slice_get_kept, given_more f xs i x h, slice_get_at (flat_map f (take i xs)) y [] most (sym reached ∙ was))
+  past_found xs i x y before most result h at was one reached is = grind (arith, given_rest f xs (i + 1), get_kept, given_more f xs i x h, slice_get_at (flat_map f (take i xs)) y [] most (sym reached ∙ was))
 
   -- there are not too many
   pub past_none : (xs : List X) (i before most : ℕ) → length xs ≤ i → before ≡ length (flat_map f (take i xs)) → before ≤ most → None ≡ first_in (past_most place (flat_map f xs) most)
-  past_none xs i before most end is few = grind (arith, take_past, slice_get_past)
+  past_none xs i before most end is few = grind (arith, take_all, slice_get_past)
 
 -- the one at a place of a list of references
 pub past_given : {X Y : Type 0} (place : Y → ℕ) (v : X → Y) (xs : List X) (ys : List Y) (most : ℕ) (o : Option X) (at : Option ℕ) (found : Option Fault) → map v xs ≡ ys → o ≡ slice_get xs most
@@ -173,14 +165,14 @@ pub opened : (runs later : List Run) (level terms : ℕ) → 0 < terms → later
 opened runs later level terms some is = cc (is, pending_push runs (record { level = level; more = terms - 1 }), repeat_some terms level some)
 
 at_last : (runs : List Run) (last : ℕ) (run : Run) → last + 1 ≡ length runs → run ≡ get_or runs last run → runs ≡ take last runs ++ run ∷ []
-at_last runs last run end at = sym (take_past runs (last + 1) (omega arith)) ∙ take_more runs last run (omega arith) ∙ ap (λ x. take last runs ++ x ∷ []) (sym at)
+at_last runs last run end at = sym (take_all (last + 1) runs (omega arith)) ∙ take_more runs last run (omega arith) ∙ ap (λ x. take last runs ++ x ∷ []) (sym at)
 
 -- the next term, where there are more of its level, or not
 pub next_again : (runs later : List Run) (last : ℕ) (run : Run) → last + 1 ≡ length runs → run ≡ get_or runs last run → 0 < run.more
     → later ≡ set runs last (record { level = run.level; more = run.more - 1 }) → pending runs ≡ run.level ∷ pending later
 next_again runs later last run end at some is =
     let whole : later ≡ take last runs ++ record { level = run.level; more = run.more - 1 } ∷ [] =
-    is ∙ sym (take_past (set runs last (record { level = run.level; more = run.more - 1 })) (last + 1) (simp length-set (omega arith)))
+    is ∙ sym (take_all (last + 1) (set runs last (record { level = run.level; more = run.more - 1 })) (simp length-set (omega arith)))
     ∙ take_more_set runs last (record { level = run.level; more = run.more - 1 }) (omega arith) in
     ap pending (at_last runs last run end at) ∙ pending_push (take last runs) run
     ∙ ap (λ ys. run.level ∷ (ys ++ pending (take last runs))) (repeat_some run.more run.level some)
@@ -204,10 +196,7 @@ two trace = wrong TwoTraces (trace_item trace).at
 -- one trace more
 pub two_more : (refs : List TraceRef) (i : ℕ) (trace : TraceRef) (old new : Option Fault) → i < length refs → trace ≡ get_or refs i trace
     → old ≡ first_in (map two (take i refs)) → new ≡ first_of old (Some (two trace)) → new ≡ first_in (map two (take (i + 1) refs))
-two_more refs i trace old new h at was is =
-    is ∙ ap (λ o. first_of o (Some (two trace))) was
-    ∙ sym (ap (λ (ts : List TraceRef). first_in (map two ts)) (take_more refs i trace h ∙ ap (λ t. take i refs ++ t ∷ []) (sym at))
-    ∙ ap first_in (map-append two (take i refs) (trace ∷ [])) ∙ first_in_append (map two (take i refs)) (two trace ∷ []))
+two_more refs i trace old new h at was is = grind (arith, first_in_append, take_more refs i trace h, map-append two (take i refs) (trace ∷ []))
 
 pub two_all : (refs : List TraceRef) (i : ℕ) (first : Option Fault) → length refs ≤ i → first ≡ first_in (map two (take i refs)) → first ≡ first_in (two_faults (map trace_item refs))
 two_all refs i first h is = is ∙ ap (λ (ts : List TraceRef). first_in (map two ts)) (take_all i refs h) ∙ ap first_in (sym (map-map (λ (other : TraceItem). wrong TwoTraces other.at) trace_item refs))
@@ -218,7 +207,4 @@ module _ (source : Source) (refs : List TraceRef) (are : map trace_item refs ≡
   some_traces trace rest one two all here is_one is_two is = grind (arith, two, first_in_append)
 
   pub no_traces : (fault : Fault) → length refs ≡ 0 → fault ≡ wrong NoTrace (length source.text) → Some fault ≡ first_in (traces_faults source (traces_of source))
-  no_traces fault none is = ap Some is ∙ ap (λ traces. first_in (traces_faults source traces)) (sym (ap (map trace_item) (empty refs none)) ∙ are) where
-    empty : (xs : List TraceRef) → length xs ≡ 0 → xs ≡ []
-    empty [] e = refl
-    empty (x ∷ xs) e = absurd cc
+  no_traces fault none is = rw (is, ← are, nil_from_length refs none) refl
