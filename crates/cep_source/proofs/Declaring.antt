@@ -1,34 +1,84 @@
--- Names that are declared, each in its space, and the first of those that are declared again.
-use Rattle.std.proofs.Common.{◌≡◌, ℕ, ◌+◌, Bool, true, false, not, if◌then◌else◌, List, [], ◌∷◌, ◌++◌, map, length, Option, Some, None, is_some, Result, OnOk, refl, ap, sym, subst, ◌∙◌, append_assoc, append-nil, arith, ◌⊎◌, ⊎_elim}
-use Rattle.std.specs.List.{list_any, position_from, Contains}
-use Rattle.std.specs.Map.{lookup}
+-- Names that are declared, each in its space; the first of those that are declared again; and at which place of a list a name stands.
+use Rattle.std.proofs.Common.{◌≡◌, ℕ, ◌+◌, Bool, ◌==◌, ◌&&◌, not, List, [], ◌∷◌, map, length, is_some, refl, ap, ◌∙◌, arith, false, ◌++◌, append-nil, true, if◌then◌else◌, Option, Some, None, Result, OnOk, sym, subst, append_assoc, ◌⊎◌, ⊎_elim, ◌<◌, take, get_or, cond, nat_lt}
+use Rattle.std.specs.List.{list_any, position_from, flat_map, Contains, position, position_or_len, prefix_len, find, slice_get}
 use Rattle.std.specs.Str.{bytes_eq}
 use Rattle.std.proofs.lemmas.Iterator.Adapters.{position_from-zero}
-use Rattle.std.proofs.lemmas.List.{length-append, map-append}
-use Rattle.std.proofs.lemmas.Slice.Eq.{bytes_eq-Decides}
-use Rattle.cep_base.proofs.Bytes.{bytes_eq_sym, any_map}
-use Rattle.cep_base.proofs.Foremost.{foremost_append, foremost_union, foremost_same, foremost_among}
 use Rattle.cep_parse.specs.declared.raw.Span.{Span}
+use Rattle.cep_parse.specs.declared.raw.RawItem.{RawItem}
+use Rattle.cep_base.proofs.Bytes.{any_map, bytes_eq_sym}
+use Rattle.cep_source.specs.declared.gathering.Kinds.{Kinds}
+use Rattle.cep_source.specs.Kept.{AreKinds, HaveTheirNames, AreClausesAmong, IsGathered, source_of, con_item, pred_item, context_item, rule_item, AreRules}
+use Rattle.cep_source.specs.Items.{Source, said, is_said, sorts_of, preds_of, is_labelled, RuleItem, cons_of, contexts_of}
+use Rattle.cep_base.specs.FirstNames.{has_name, under_name, added}
+use Rattle.cep_source.specs.Firsts.{place_among, IsNamed, IsTable, again_among, text_alone, unlabelled_over}
+use Rattle.cep_source.specs.Spaces.{Named, named, names_in, rule_names_from, IsTwice, rule_name, unlabelled_behind}
+use Rattle.std.proofs.lemmas.List.{map-append, length-append, length-map, take_more}
+use Rattle.std.proofs.lemmas.Grind.{flat_map-append}
+use Rattle.cep_parse.specs.declared.raw.RawItem.TheVariants.{Colon}
+use Rattle.cep_source.specs.declared.items.RawCon.{RawCon}
+use Rattle.cep_source.specs.declared.clauses.Clauses.{Clauses}
+use Rattle.std.specs.Map.{lookup}
+use Rattle.std.proofs.lemmas.Slice.Eq.{bytes_eq-Decides}
+use Rattle.cep_base.proofs.Foremost.{foremost_append, foremost_union, foremost_same, foremost_among}
 use Rattle.cep_parse.specs.Symbols.{slice_of}
 use Rattle.cep_refusal.specs.declared.fault.Fault.{Fault}
 use Rattle.cep_refusal.specs.declared.reason.Reason.TheVariants.{Twice}
 use Rattle.cep_refusal.specs.First.{standing, first_of, first_in, wrong, IsFirstOrNone}
 use Rattle.cep_source.specs.declared.table.Table.{Table}
-use Rattle.cep_source.specs.Spaces.{Named, named, names_in, rule_name, rule_names_from, IsTwice}
-use Rattle.cep_base.specs.FirstNames.{has_name, under_name, added}
-use Rattle.cep_source.specs.Firsts.{IsTable, IsNamed, again_among, place_among, text_alone}
-use Rattle.cep_source.proofs.Labels.{has_place, has_under}
 use Rattle.std.proofs.lemmas.Simd.{map-map}
 use Rattle.cep_source.specs.declared.space.Space.{Space}
-use Rattle.cep_source.specs.declared.space.Space.TheVariants as space
 use Rattle.cep_source.specs.declared.source.Source.TheInside.{Inside}
-use Rattle.cep_source.specs.Kept.{IsGathered, source_of, con_item, pred_item, context_item, rule_item}
-use Rattle.cep_source.specs.Items.{Source, RuleItem, cons_of, preds_of, contexts_of}
-use Rattle.std.proofs.lemmas.Bool.{false≢true, or_cases}
+use Rattle.std.proofs.lemmas.Bool.{false≢true, or_cases, ltb-false}
 use Rattle.std.proofs.lemmas.List.Elements.{Contains-get_or, Contains-append_right}
-use Rattle.std.proofs.lemmas.List.Folds.{list_any_at}
+use Rattle.std.proofs.lemmas.List.Folds.{list_any_at, find_at}
 use Rattle.cep_base.proofs.Members.{In, here, in_nil, in_one, in_same, in_left, in_right, in_parts, to_contains, from_contains}
 use Rattle.cep_source.specs.Spaces.IsTwice.{again}
+use Rattle.std.specs.Option.{option_map, option_and_then}
+use Rattle.std.proofs.lemmas.Option.{slice_get_past}
+use Rattle.cep_source.specs.declared.items.RuleRef.{RuleRef}
+use Rattle.cep_source.specs.declared.rules.Rules.{Rules}
+use Rattle.cep_source.specs.declared.space.Space.TheVariants as space
+
+-- A name that has a place is in its space.
+
+has_from : {X : Type 0} (p : X → Bool) (i : ℕ) (xs : List X) → is_some (position_from p i xs) ≡ list_any p xs
+has_from p i [] = refl
+has_from p i (x ∷ xs) = grind (arith, has_from p (i + 1) xs)
+
+pub has_place : (names : List Named) (name : List ℕ) → is_some (place_among names name) ≡ list_any (λ other. bytes_eq other.name name) names
+has_place names name = ap is_some (position_from-zero (λ other. bytes_eq other.name name) names) ∙ has_from (λ other. bytes_eq other.name name) 0 names
+
+pub has_under : (table : List (List ℕ × ℕ)) (name : List ℕ) → has_name table name ≡ is_some (under_name table name)
+has_under [] name = refl
+has_under (entry ∷ table) name = grind (arith, entry.0, has_under table name, entry.1)
+
+-- a clause has a label by the places of two names
+module _ (text : List ℕ) (file : List RawItem) (kinds : Kinds) (are : AreKinds file kinds) (named_by : HaveTheirNames text kinds) where
+  abbrev text_source : Source
+  text_source = record { text = text; file = file }
+
+  sorts_said : (name : List ℕ) → has_name kinds.sorts.places name ≡ is_said text_source (sorts_of text_source) name
+  sorts_said name = rw (has_under kinds.sorts.places name, named_by.sorts.places name, has_place _ name, any_map (λ other. bytes_eq other.name name) (named text_source) kinds.sorts.items.items, are.sorts)
+
+  preds_said : (name : List ℕ) → has_name kinds.preds.places name ≡ is_said text_source (map (λ pred. pred.name) (preds_of text_source)) name
+  preds_said name = grind (arith, has_under, has_place, any_map, are.preds)
+
+  pub labelled_by : (args : List Span) (right : Span) (name : List ℕ) → name ≡ said text_source right
+      → ((length args == 0) && (not (has_name kinds.sorts.places name) && has_name kinds.preds.places name)) ≡ is_labelled text_source args right
+  labelled_by args right name is = rw (is, sorts_said (said text_source right), preds_said (said text_source right)) refl
+
+-- One constructor more.
+
+one_more : {X A : Type 0} (f : X → List A) (before : List X) (x : X) (ys : List A) → f x ≡ ys → flat_map f (before ++ x ∷ []) ≡ flat_map f before ++ ys
+one_more f before x ys is = flat_map-append f before (x ∷ []) ∙ ap (λ l. flat_map f before ++ l) (append-nil (f x) ∙ is)
+
+pub same_label : (source : Source) {left right left2 right2 : Span} {args args2 : List Span} → Colon left args right ≡ Colon left2 args2 right2 → is_labelled source args right ≡ is_labelled source args2 right2
+same_label source {left} {right} {left2} {right2} {args} {args2} is = grind arith
+
+module _ (source : Source) (before : List RawItem) (item : RawItem) (con : RawCon) (item_is : item ≡ Colon con.name con.args.now con.sort) (unlabelled : is_labelled source con.args.now con.sort ≡ false) where
+  pub con_sorted : (old new : Clauses) → AreClausesAmong source before old → new.cons.items.items ≡ old.cons.items.items ++ con ∷ [] → new.clauses ≡ old.clauses
+      → IsNamed source.text (λ con. con.name) new.cons → AreClausesAmong source (before ++ item ∷ []) new
+  con_sorted old new were pushed kept are = grind (arith, map-append, one_more, append-nil, were.cons, were.clauses)
 
 -- One declaration more, and the places and the faults that are known then.
 
@@ -51,9 +101,6 @@ among_push names n name = grind (arith, position_from-zero, from_push, or_else)
 -- a name that is there keeps its place
 kept_by : (b : Bool) (found : Option ℕ) (place : ℕ) → (b ≡ true → is_some found ≡ true) → found ≡ or_else found (if b then Some place else None)
 kept_by b found place h = grind arith
-
-is_not : (b other : Bool) → b ≡ not other → other ≡ not b
-is_not b other e = grind arith
 
 again_push : (before : List (List ℕ)) (names : List Named) (n : Named)
     → again_among before (names ++ n ∷ []) ≡ again_among before names ++ (if list_any (λ name. bytes_eq name n.name) (before ++ map (λ m. m.name) names) then wrong Twice n.at ∷ [] else [])
@@ -99,10 +146,10 @@ module _ {T : Type 0} (names : List Named) (n : Named) (old new : Table T) (are 
     }
 
     pub newly_declared : true ≡ not (has_name old.places n.name) → new.twice ≡ old.twice → IsTable (names ++ n ∷ []) new
-    newly_declared e = declared_by false (is_not true (has_name old.places n.name) e)
+    newly_declared e = declared_by false (grind arith)
 
     pub again_declared : false ≡ not (has_name old.places n.name) → new.twice ≡ first_of old.twice (Some (wrong Twice n.at)) → IsTable (names ++ n ∷ []) new
-    again_declared e = declared_by true (is_not false (has_name old.places n.name) e)
+    again_declared e = declared_by true (grind arith)
 
 -- one item more whose name is said at a span
 pub named_more : {T : Type 0} (text : List ℕ) (span : T → Span) (old new : Table T) (item : T) (at : Span) → span item ≡ at → (name : List ℕ) → name ≡ slice_of text at.from at.to
@@ -125,11 +172,8 @@ pub items_named : {X Y : Type 0} (source : Source) (item : X → Y) (span : Y �
 items_named source item span refs all are = sym (map-map (λ y. named source (span y)) item refs) ∙ ap (map (λ y. named source (span y))) are
 
 -- the names of rules
-rule_alone : (source : Source) (unlabelled : ℕ) (label : Option Span) → rule_name (text_alone source.text) unlabelled label ≡ rule_name source unlabelled label
-rule_alone source unlabelled label = refl
-
 pub names_alone : (source : Source) (unlabelled : ℕ) (rules : List RuleItem) → rule_names_from (text_alone source.text) unlabelled rules ≡ rule_names_from source unlabelled rules
-names_alone source unlabelled rules = grind (arith, rule_alone, source)
+names_alone source unlabelled rules = refl
 
 -- what is known of the names of a space
 pub record AreKnown (names : List Named) (table : List (List ℕ × ℕ)) (fault : Option Fault) : Type 0 where
@@ -246,12 +290,6 @@ module _ (source : Source) where
       (subst (In (again_among [] (names_in source space_))) (sym is)
       (in_same (again_among [] (names_in source space_)) (again_among [] (before ++ entry ∷ after)) (wrong Twice entry.at) (ap (again_among []) names) (later_in [] before after entry earlier))))
 
-  both : (P Q : Fault → Type 0) (one two : Option Fault) → IsFirstOrNone P one → IsFirstOrNone Q two → IsFirstOrNone (λ fault. P fault ⊎ Q fault) (first_of one two)
-  both = foremost_union standing
-
-  among : (space_ : Space) → IsFirstOrNone (Again space_) (first_again space_)
-  among space_ = foremost_among standing (again_among [] (names_in source space_))
-
   pub first_twice : (sorts preds stages contexts cons rules all : Option Fault)
       → sorts ≡ first_again space.Sorts → preds ≡ first_again space.Predicates → stages ≡ first_again space.Stages → contexts ≡ first_again space.Contexts
       → cons ≡ first_again space.Constructors → rules ≡ first_again space.Rules → all ≡ first_of (first_of (first_of sorts preds) (first_of stages contexts)) (first_of cons rules)
@@ -262,3 +300,89 @@ module _ (source : Source) where
       (λ fault. ⊎_elim (⊎_elim (⊎_elim (again_twice space.Sorts fault) (again_twice space.Predicates fault)) (⊎_elim (again_twice space.Stages fault) (again_twice space.Contexts fault))) (⊎_elim (again_twice space.Constructors fault) (again_twice space.Rules fault)))
       twice_again
       (both _ _ _ _ (both _ _ _ _ (both _ _ _ _ (among space.Sorts) (among space.Predicates)) (both _ _ _ _ (among space.Stages) (among space.Contexts))) (both _ _ _ _ (among space.Constructors) (among space.Rules))))
+    where
+      both : (P Q : Fault → Type 0) (one two : Option Fault) → IsFirstOrNone P one → IsFirstOrNone Q two → IsFirstOrNone (λ fault. P fault ⊎ Q fault) (first_of one two)
+      both = foremost_union standing
+
+      among : (space_ : Space) → IsFirstOrNone (Again space_) (first_again space_)
+      among space_ = foremost_among standing (again_among [] (names_in source space_))
+
+-- At which place of a list a name stands, and what stands there.
+
+before_map : {X Y : Type 0} (p : Y → Bool) (f : X → Y) (xs : List X) → prefix_len (λ x. not (p (f x))) xs ≡ prefix_len (λ y. not (p y)) (map f xs)
+before_map p f [] = refl
+before_map p f (x ∷ xs) = ap (λ (rest : ℕ). cond (not (p (f x))) (1 + rest) 0) (before_map p f xs)
+
+pub position_map : {X Y : Type 0} (p : Y → Bool) (f : X → Y) (xs : List X) → position (λ x. p (f x)) xs ≡ position p (map f xs)
+position_map p f xs = rw (before_map p f xs, ← length-map xs f) refl
+
+before_flip : (name : List ℕ) (names : List (List ℕ)) → prefix_len (λ n. not (bytes_eq name n)) names ≡ prefix_len (λ n. not (bytes_eq n name)) names
+before_flip name [] = refl
+before_flip name (x ∷ names) = rw (bytes_eq_sym name x) (ap (λ (rest : ℕ). cond (not (bytes_eq x name)) (1 + rest) 0) (before_flip name names))
+
+position_flip : (name : List ℕ) (names : List (List ℕ)) → position (λ n. bytes_eq name n) names ≡ position (λ n. bytes_eq n name) names
+position_flip name names = rw (before_flip name names) refl
+
+-- the place of a name among entries is that among names
+pub number_among : {X : Type 0} (entries : List (List ℕ × X)) (name : List ℕ) → position (λ entry. bytes_eq name entry.0) entries ≡ position (λ n. bytes_eq n name) (map (λ entry. entry.0) entries)
+number_among entries name = position_map (λ n. bytes_eq name n) (λ entry. entry.0) entries ∙ position_flip name (map (λ entry. entry.0) entries)
+
+-- what is found first stands at its place
+found_placed : {X : Type 0} (p : X → Bool) (xs : List X) → option_and_then (slice_get xs) (position p xs) ≡ find p xs
+found_placed p xs = by (nat_lt (position_or_len p xs) (length xs)) refl
+  where
+    by : (within : Bool) → nat_lt (position_or_len p xs) (length xs) ≡ within → option_and_then (slice_get xs) (cond within (Some (position_or_len p xs)) None) ≡ find p xs
+    by within e = grind (arith, find_at, slice_get_past, ltb-false)
+
+found_map : {X Y : Type 0} (p : Y → Bool) (item : X → Y) (xs : List X) → option_map item (find (λ x. p (item x)) xs) ≡ find p (map item xs)
+found_map p item [] = refl
+found_map p item (x ∷ xs) = grind (arith, found_map p item xs)
+
+-- the item that is declared first of a name
+pub told : {X Y : Type 0} (source : Source) (item : X → Y) (span : Y → Span) (table : Table X) (all : List Y) (name : List ℕ) → map item table.items.items ≡ all
+    → IsNamed source.text (λ x. span (item x)) table
+    → option_map item (option_and_then (slice_get table.items.items) (under_name table.places name)) ≡ find (λ y. bytes_eq (said source (span y)) name) all
+told source item span table all name are named_by =
+    let refs = table.items.items in
+    ap (λ place. option_map item (option_and_then (slice_get refs) place)) (named_by.places name ∙ sym (position_map (λ (other : Named). bytes_eq other.name name) (λ x. named source (span (item x))) refs))
+    ∙ ap (option_map item) (found_placed (λ x. bytes_eq (said source (span (item x))) name) refs)
+    ∙ found_map (λ y. bytes_eq (said source (span y)) name) item refs ∙ ap (find (λ y. bytes_eq (said source (span y)) name)) are
+
+-- one more item of a loop
+pub taken : {X : Type 0} (P : List X → Type 0) (xs : List X) (i : ℕ) (x : X) → i < length xs → x ≡ get_or xs i x → P (take i xs ++ x ∷ []) → P (take (i + 1) xs)
+taken P xs i x h at = subst P (sym (take_more xs i x h ∙ ap (λ y. take i xs ++ y ∷ []) (sym at)))
+
+-- one more item of a loop that adds its image
+pub push_map : {X Y : Type 0} (f : X → Y) (xs : List X) (i : ℕ) (d : X) (old new : List Y) (y : Y) → i < length xs
+    → old ≡ map f (take i xs) → y ≡ f (get_or xs i d) → new ≡ old ++ y ∷ [] → new ≡ map f (take (i + 1) xs)
+push_map f xs i d old new y h was is_y is = grind (arith, take_more xs i d h, map-append f (take i xs) (get_or xs i d ∷ []))
+
+-- One rule more, and its name.
+
+over_more : (unlabelled : ℕ) (items : List RuleItem) (item : RuleItem) → unlabelled_over unlabelled (items ++ item ∷ []) ≡ unlabelled_behind (unlabelled_over unlabelled items) item.raw.label
+over_more unlabelled [] item = refl
+over_more unlabelled (x ∷ items) item = over_more (unlabelled_behind unlabelled x.raw.label) items item
+
+names_push : (source : Source) (unlabelled : ℕ) (items : List RuleItem) (item : RuleItem)
+    → rule_names_from source unlabelled (items ++ item ∷ []) ≡ rule_names_from source unlabelled items ++ record { name = rule_name source (unlabelled_over unlabelled items) item.raw.label; at = item.raw.at } ∷ []
+names_push source unlabelled [] item = refl
+names_push source unlabelled (x ∷ items) item = rw (names_push source (unlabelled_behind unlabelled x.raw.label) items item)
+
+module _ (text : List ℕ) (old new : Rules) (rule : RuleRef) (name : List ℕ) (were : AreRules text old) where
+  abbrev label : Option Span
+  label = rule.raw.now.label
+
+  abbrev before : List RuleItem
+  before = map rule_item old.table.items.items
+
+  abbrev names : List Named
+  names = rule_names_from (text_alone text) 0 before
+
+  pub rule_more : name ≡ rule_name (text_alone text) old.unlabelled label → new.unlabelled ≡ unlabelled_behind old.unlabelled label
+      → new.names.items ≡ old.names.items ++ name ∷ [] → new.table.items.items ≡ old.table.items.items ++ rule ∷ []
+      → ((names : List Named) → IsTable names old.table → IsTable (names ++ record { name = name; at = rule.raw.now.at } ∷ []) new.table)
+      → AreRules text new
+  rule_more called counted pushed listed declared = grind (arith, before, map-append, names, names_push, label, over_more)
+
+pub none_ruled : (text : List ℕ) (rules : Rules) → rules.table.items.items ≡ [] → rules.names.items ≡ [] → rules.unlabelled ≡ 0 → IsTable [] rules.table → AreRules text rules
+none_ruled text rules none nameless counted are = grind (arith, names)

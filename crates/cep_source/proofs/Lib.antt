@@ -1,5 +1,3 @@
-pub mod Lookups
-pub mod Meeting
-pub mod Labels
 pub mod Declaring
+pub mod Meeting
 pub mod Turns

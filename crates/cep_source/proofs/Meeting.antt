@@ -17,7 +17,7 @@ use Rattle.cep_source.specs.Items.{Source, said}
 use Rattle.cep_source.specs.Variables.{Occurrence, occurrence_at, occurrences_from, firsts_beside, blanks_after, blanks_behind}
 use Rattle.cep_base.specs.FirstNames.{has_name, added}
 use Rattle.cep_source.specs.Met.{none_met, met_site, met_nodes, AreVariables}
-use Rattle.cep_source.proofs.Lookups.{taken}
+use Rattle.cep_source.proofs.Declaring.{taken}
 
 any_end : {X : Type 0} (p : X → Bool) (xs : List X) (x : X) → list_any p (xs ++ x ∷ []) ≡ (p x || list_any p xs)
 any_end p [] x = refl

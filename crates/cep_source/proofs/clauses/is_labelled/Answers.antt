@@ -1,7 +1,7 @@
 use Rattle.std.proofs.Common.{◌≡◌, ◌∙◌, ◌==◌, ◌&&◌, not, length, arith}
 use Rattle.std.proofs.lemmas.Grind.{common_steps}
 use Rattle.cep_base.specs.FirstNames.{has_name}
-use Rattle.cep_source.proofs.Labels.{labelled_by}
+use Rattle.cep_source.proofs.Declaring.{labelled_by}
 use Rattle.cep_source.proofs.clauses.is_labelled.Goals as goal
 
 pub returns-then-not-has_name : goal.returns-then-not-has_name

@@ -2,7 +2,7 @@ use Rattle.std.proofs.Common.{List, ◌∙◌, ap, sym, refl}
 use Rattle.cep_parse.specs.declared.raw.Span.{Span}
 use Rattle.cep_parse.specs.declared.raw.RawItem.TheVariants.{Colon}
 use Rattle.cep_source.specs.Items.{Source}
-use Rattle.cep_source.proofs.Labels.{con_sorted, same_label}
+use Rattle.cep_source.proofs.Declaring.{con_sorted, same_label}
 use Rattle.cep_source.proofs.clauses.Clauses.sort_out.Goals as goal
 
 pub returns-in_ok-declare-in-Colon-2 : goal.returns-in_ok-declare-in-Colon-2

@@ -1,7 +1,6 @@
 use Rattle.std.proofs.Common.{refl, rules, take, arith}
 use Rattle.cep_source.specs.Kept.{AreKinds}
-use Rattle.cep_source.proofs.Lookups.{taken, none_ruled}
-use Rattle.cep_source.proofs.Declaring.{none_named}
+use Rattle.cep_source.proofs.Declaring.{taken, none_ruled, none_named}
 use Rattle.cep_source.proofs.gathering.Kinds.of_file.Goals as goal
 use Rattle.std.proofs.lemmas.Grind.{common_steps}
 

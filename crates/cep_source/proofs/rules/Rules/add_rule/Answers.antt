@@ -1,4 +1,4 @@
-use Rattle.cep_source.proofs.Lookups.{rule_more}
+use Rattle.cep_source.proofs.Declaring.{rule_more}
 use Rattle.cep_source.proofs.rules.Rules.add_rule.Goals as goal
 
 pub returns-clause-named : goal.returns-clause-named

@@ -5,7 +5,7 @@ use Rattle.cep_parse.specs.declared.raw.Span.{Span}
 use Rattle.cep_source.specs.Items.{Source, is_said, interactives_of}
 use Rattle.cep_source.specs.Spaces.{Named, named}
 use Rattle.cep_source.specs.Kept.{source_of}
-use Rattle.cep_source.proofs.Labels.{has_place, has_under}
+use Rattle.cep_source.proofs.Declaring.{has_place, has_under}
 use Rattle.cep_source.proofs.source.Source.is_interactive.Goals as goal
 
 pub returns : goal.returns

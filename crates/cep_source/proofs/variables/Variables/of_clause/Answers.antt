@@ -1,8 +1,5 @@
-use Rattle.std.proofs.Common.{List, ◌∷◌, ap, ◌∙◌}
+use Rattle.std.proofs.Common.{◌∷◌}
 use Rattle.std.proofs.lemmas.List.{take_all}
-use Rattle.cep_parse.specs.declared.raw.RawAtom.{RawAtom}
-use Rattle.cep_parse.specs.Raw.{raw_nodes}
-use Rattle.cep_source.specs.Met.{none_met, met_nodes}
 use Rattle.cep_source.specs.Kept.{atom_at}
 use Rattle.cep_source.proofs.Meeting.{goals_met, are_variables}
 use Rattle.cep_source.proofs.variables.Variables.of_clause.Goals as goal
@@ -14,6 +11,4 @@ loop-goal-preserved c =
 
 pub returns : goal.returns
 returns c =
-    let head = atom_at c.args.clause.now.head in
-    are_variables c.args.source.now (head ∷ c.args.clause.now.goals.now) c.loop-goal.variables
-    (c.loop-goal.invariant ∙ ap (λ (goals : List RawAtom). met_nodes c.args.source.now none_met (raw_nodes (head ∷ goals))) (take_all c.loop-goal.goal-index c.args.clause.now.goals.now c.loop-goal-test.false))
+    are_variables c.args.source.now (atom_at c.args.clause.now.head ∷ c.args.clause.now.goals.now) c.loop-goal.variables (rw (take_all c.loop-goal.goal-index c.args.clause.now.goals.now c.loop-goal-test.false) at c.loop-goal.invariant)

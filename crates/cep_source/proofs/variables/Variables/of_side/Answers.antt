@@ -1,8 +1,5 @@
-use Rattle.std.proofs.Common.{List, ap, ◌∙◌}
 use Rattle.std.proofs.lemmas.List.{take_all}
-use Rattle.cep_parse.specs.declared.raw.RawElem.{RawElem}
-use Rattle.cep_parse.specs.Raw.{raw_nodes, atoms_of}
-use Rattle.cep_source.specs.Met.{none_met, met_nodes}
+use Rattle.cep_parse.specs.Raw.{atoms_of}
 use Rattle.cep_source.proofs.Meeting.{side_met, are_variables}
 use Rattle.cep_source.proofs.variables.Variables.of_side.Goals as goal
 
@@ -14,4 +11,4 @@ loop-elem-preserved c =
 pub returns : goal.returns
 returns c =
     are_variables c.args.source.now (atoms_of c.args.side.now) c.loop-elem.variables
-    (c.loop-elem.invariant ∙ ap (λ (side : List RawElem). met_nodes c.args.source.now none_met (raw_nodes (atoms_of side))) (take_all c.loop-elem.elem-index c.args.side.now c.loop-elem-test.false))
+    (rw (take_all c.loop-elem.elem-index c.args.side.now c.loop-elem-test.false) at c.loop-elem.invariant)
