@@ -1,10 +1,14 @@
 -- The nodes of terms, the variables and blanks among them, and the atoms and premises that are built of them.
-use Rattle.std.proofs.Common.{List, map, ◌≡◌, ℕ, ◌+◌, Bool, true, false, ◌||◌, if◌then◌else◌, cond, [], ◌∷◌, ◌++◌, fold, Option, Some, None, unwrap_or, refl, ap, sym, ◌∙◌, append_assoc, ◌<◌, not, filter, length, take, get_or, subst, arith, ◌⊎◌, inl, inr, ⊎_elim, Contains, suc, drop, ◌≤◌}
+use Rattle.cep_base.proofs.Members.{in_filter, to_contains, from_contains}
+use Rattle.std.proofs.lemmas.List.Folds.{find_at}
+use Rattle.std.specs.List.{position_or_len}
+use Rattle.cep_base.proofs.Elements.{contains_at}
+use Rattle.std.proofs.Common.{List, map, ◌≡◌, ℕ, ◌+◌, Bool, true, false, ◌||◌, if◌then◌else◌, cond, [], ◌∷◌, ◌++◌, fold, Option, Some, None, unwrap_or, refl, ap, sym, ◌∙◌, append_assoc, ◌<◌, not, filter, length, take, get_or, subst, arith, Contains, suc, drop, ◌≤◌}
 use Rattle.cep_parse.specs.declared.raw.RawNode.{RawNode}
 use Rattle.cep_types.specs.Sites.{Site, Wanted, sites_of, wanted_from, type_of, rule_scope}
 pub use Rattle.cep_types.proofs.Meeting.{blanks_both}
 use Rattle.std.specs.Option.{option_map}
-use Rattle.std.specs.List.{list_any, flat_map, AllZip, AllByRecursion, find}
+use Rattle.std.specs.List.{list_any, flat_map, AllZip, AllByRecursion}
 use Rattle.std.specs.Str.{bytes_eq}
 use Rattle.std.proofs.lemmas.List.{map-append, append-nil, take_more, drop_more, length-map, drop_all}
 use Rattle.std.proofs.lemmas.Simd.{map-map}
@@ -161,12 +165,15 @@ module _ (source : Source) (atoms : List RawAtom) (variables : Variables) (met :
   abbrev firsts : List Wanted
   firsts = fold further [] all
 
+  names_of_firsts : wanted_names_of firsts ≡ occurring (variables_of source atoms)
+  names_of_firsts =
+      met_names [] [] all (λ name. refl) ∙ ap (new_names []) (wanted_names source 0 (sites_of source atoms) ∙ ap (λ nodes. occurring (occurrences_from source 0 nodes)) met.covered)
+      ∙ sym (firsts_names [] (occurrences_from source 0 (raw_nodes atoms)))
+
   pub names_met : names_among variables.firsts ≡ names_of source atoms
   names_met =
       sym (map-map (λ (w : Wanted). w.name) (λ (e : List ℕ × Span). record { name = e.0; wants = said source e.1 }) variables.firsts)
-      ∙ ap wanted_names_of met.firsts ∙ met_names [] [] all (λ name. refl)
-      ∙ ap (new_names []) (wanted_names source 0 (sites_of source atoms) ∙ ap (λ nodes. occurring (occurrences_from source 0 nodes)) met.covered)
-      ∙ sym (firsts_names [] (occurrences_from source 0 (raw_nodes atoms)))
+      ∙ ap wanted_names_of met.firsts ∙ names_of_firsts
 
   abbrev kind_of : Option (List ℕ) → ℕ
   kind_of type = number_of source space.Sorts (unwrap_or type [])
@@ -186,8 +193,12 @@ module _ (source : Source) (atoms : List RawAtom) (variables : Variables) (met :
       ∙ map-map kind_found (λ (w : Wanted). found name_of firsts w.name) firsts
       ∙ sym (each_kind firsts)
       ∙ ap (map (λ (name : List ℕ). kind_of (type_of source atoms name)))
-      (met_names [] [] all (λ name. refl) ∙ ap (new_names []) (wanted_names source 0 (sites_of source atoms) ∙ ap (λ nodes. occurring (occurrences_from source 0 nodes)) met.covered) ∙ sym (firsts_names [] (occurrences_from source 0 (raw_nodes atoms))))
+      names_of_firsts
       ∙ map-map (λ (name : List ℕ). kind_of (type_of source atoms name)) (λ (o : Occurrence). o.name) (variables_of source atoms)
+
+-- what is made of those that pass, of two parts
+kept_both : {X Y : Type 0} (f : X → Y) (p : X → Bool) (xs ys : List X) → map f (filter p (xs ++ ys)) ≡ map f (filter p xs) ++ map f (filter p ys)
+kept_both f p xs ys = ap (map f) (filter-append p xs ys) ∙ map-append f (filter p xs) (filter p ys)
 
 -- Atoms and premises are built one after another.
 
@@ -214,9 +225,7 @@ module _ (source : Source) (vars : List (List ℕ)) where
   pub part_built : {X : Type 0} (g : X → List RawAtom) (xs : List X) (i : ℕ) (x : X) (before middle behind : ℕ) (old between new : List AtomTree) → i < length xs → x ≡ get_or xs i x
       → AreBuilt source vars (flat_map g (take i xs)) before middle old between → AreBuilt source vars (g x) middle behind between new → AreBuilt source vars (flat_map g (take (i + 1) xs)) before behind old new
   part_built g xs i x before middle behind old between new h at was is =
-      let atoms : flat_map g (take (i + 1) xs) ≡ flat_map g (take i xs) ++ g x =
-      ap (flat_map g) (take_more xs i x h) ∙ flat_map-append g (take i xs) (get_or xs i x ∷ []) ∙ ap (λ ys. flat_map g (take i xs) ++ ys) (append-nil (g (get_or xs i x)) ∙ ap g (sym at)) in
-      subst (λ (ys : List RawAtom). AreBuilt source vars ys before behind old new) (sym atoms) (both_built (flat_map g (take i xs)) (g x) before middle behind old between new was is)
+      rw (take_more xs i x h, flat_map-append g (take i xs) (get_or xs i x ∷ []), append-nil (g (get_or xs i x)), ← at) (both_built (flat_map g (take i xs)) (g x) before middle behind old between new was is)
 
   pub atom_built : (xs : List RawAtom) (i : ℕ) (x : RawAtom) (before middle behind : ℕ) (old between new : List AtomTree) → i < length xs → x ≡ get_or xs i x
       → AreBuilt source vars (take i xs) before middle old between → AreBuilt source vars (x ∷ []) middle behind between new → AreBuilt source vars (take (i + 1) xs) before behind old new
@@ -237,13 +246,6 @@ module _ (source : Source) (vars : List (List ℕ)) where
       (first.0, first.1, premises_both (blanks_after blanks raw.nodes) one two ps qs first.2 (subst (λ n. ArePremisesBy source vars n two qs) (blanks_both blanks raw.nodes (raw_nodes (atoms_of one))) second))
   premises_both blanks one two ps qs first second = grind arith
 
-  pub no_premise : (blanks : ℕ) (left : LeftSide) → IsLeftBuilt source vars [] blanks blanks left left
-  no_premise blanks left = record { more = []; are = tt; premises_are = sym (append-nil left.premises); backs_are = sym (append-nil left.backs); behind_is = refl }
-
-  filter_both : (p : PremiseTree → Bool) (one two : List PremiseTree) → filter p (one ++ two) ≡ filter p one ++ filter p two
-  filter_both p [] two = refl
-  filter_both p (x ∷ one) two = grind (arith, filter_both p one two)
-
   pub left_both : (one two : List RawElem) (before middle behind : ℕ) (old between new : LeftSide) → IsLeftBuilt source vars one before middle old between → IsLeftBuilt source vars two middle behind between new → IsLeftBuilt source vars (one ++ two) before behind old new
   left_both one two before middle behind old between new first second =
       let linear = λ (premise : PremiseTree). not (is_back source premise.atom) in
@@ -253,9 +255,9 @@ module _ (source : Source) (vars : List (List ℕ)) where
         more = first.more ++ second.more;
         are = premises_both before one two first.more second.more first.are (subst (λ n. ArePremisesBy source vars n two second.more) first.behind_is second.are);
         premises_are = second.premises_are ∙ ap (λ ps. ps ++ filter linear second.more) first.premises_are ∙ append_assoc old.premises (filter linear first.more) (filter linear second.more)
-            ∙ ap (λ ps. old.premises ++ ps) (sym (filter_both linear first.more second.more));
+            ∙ ap (λ ps. old.premises ++ ps) (sym (filter-append linear first.more second.more));
         backs_are = second.backs_are ∙ ap (λ ps. ps ++ map atom_in (filter backward second.more)) first.backs_are ∙ append_assoc old.backs (map atom_in (filter backward first.more)) (map atom_in (filter backward second.more))
-            ∙ ap (λ ps. old.backs ++ ps) (sym (ap (map atom_in) (filter_both backward first.more second.more) ∙ map-append atom_in (filter backward first.more) (filter backward second.more)));
+            ∙ ap (λ ps. old.backs ++ ps) (sym (kept_both atom_in backward first.more second.more));
         behind_is = second.behind_is ∙ ap (λ n. blanks_after n (raw_nodes (atoms_of two))) first.behind_is
             ∙ sym (ap (blanks_after before) (ap raw_nodes (flat_map-append atoms_in one two) ∙ flat_map-append (λ (atom : RawAtom). atom.nodes) (atoms_of one) (atoms_of two)) ∙ blanks_both before (raw_nodes (atoms_of one)) (raw_nodes (atoms_of two)));
       }
@@ -268,14 +270,12 @@ module _ (source : Source) (vars : List (List ℕ)) where
   pub back_built : (marked : Bool) (raw : RawAtom) (before behind : ℕ) (old : LeftSide) (backs : List AtomTree) (atom : AtomTree) → IsAtomBy source vars before raw atom → behind ≡ blanks_after before raw.nodes
       → is_back source atom ≡ true → backs ≡ old.backs ++ atom ∷ [] → IsLeftBuilt source vars (elem.Atom marked raw ∷ []) before behind old (record { premises = old.premises; backs = backs })
   back_built marked raw before behind old backs atom is blanks_are back backs_are = record {
-    more = premise ∷ [];
+    more = record { atom = atom; kept = marked || is_fact_by source atom } ∷ [];
     are = (refl, is, tt);
     premises_are = rw back (sym (append-nil old.premises));
     backs_are = rw back backs_are;
     behind_is = blanks_are ∙ ap (blanks_after before) (sym (append-nil raw.nodes));
-  } where
-    premise : PremiseTree
-    premise = record { atom = atom; kept = marked || is_fact_by source atom }
+  }
 
   pub linear_built : (marked kept : Bool) (raw : RawAtom) (before behind : ℕ) (old : LeftSide) (premises : List PremiseTree) (atom : AtomTree) → kept ≡ (marked || is_fact_by source atom) → IsAtomBy source vars before raw atom → behind ≡ blanks_after before raw.nodes
       → is_back source atom ≡ false → premises ≡ old.premises ++ record { atom = atom; kept = kept } ∷ [] → IsLeftBuilt source vars (elem.Atom marked raw ∷ []) before behind old (record { premises = premises; backs = old.backs })
@@ -302,12 +302,7 @@ zip_push R xs ys x y are is = grind arith
 
 pub zip_more : {X A B : Type 0} (R : A → B → Type 0) (f : X → A) (xs : List X) (i : ℕ) (x : X) (old new : List B) (y : B) → i < length xs → x ≡ get_or xs i x
     → AllZip R (map f (take i xs)) old → R (f x) y → new ≡ old ++ y ∷ [] → AllZip R (map f (take (i + 1) xs)) new
-zip_more {A = A} {B = B} R f xs i x old new y h at are is new_is =
-    subst (λ (ys : List B). AllZip R (map f (take (i + 1) xs)) ys) (sym new_is)
-    (subst (λ (as_ : List A). AllZip R as_ (old ++ y ∷ [])) (sym items) (zip_push R (map f (take i xs)) old (f x) y are is))
-  where
-    items : map f (take (i + 1) xs) ≡ map f (take i xs) ++ f x ∷ []
-    items = ap (map f) (take_more xs i x h) ∙ map-append f (take i xs) (get_or xs i x ∷ []) ∙ ap (λ z. map f (take i xs) ++ f z ∷ []) (sym at)
+zip_more R f xs i x old new y h at are is new_is = rw (new_is, take_more xs i x h, map-append f (take i xs) (get_or xs i x ∷ []), ← at) (zip_push R (map f (take i xs)) old (f x) y are is)
 
 -- Rules are built from the tokens of a text, and the atoms of its start state are ground.
 
@@ -318,13 +313,9 @@ abbrev IsClosed : Head → Type 0
 IsClosed (var v) = ⊥
 IsClosed (con c args) = Unit {0}
 
-left_all : (xs ys : List Head) → AllByRecursion IsClosed (xs ++ ys) → AllByRecursion IsClosed xs
-left_all [] ys all = tt
-left_all (x ∷ xs) ys all = (all.0, left_all xs ys all.1)
-
-right_all : (xs ys : List Head) → AllByRecursion IsClosed (xs ++ ys) → AllByRecursion IsClosed ys
-right_all [] ys all = all
-right_all (x ∷ xs) ys all = right_all xs ys all.1
+parts_all : (xs ys : List Head) → AllByRecursion IsClosed (xs ++ ys) → AllByRecursion IsClosed xs × AllByRecursion IsClosed ys
+parts_all [] ys all = (tt, all)
+parts_all (x ∷ xs) ys all = let rest = parts_all xs ys all.1 in ((all.0, rest.0), rest.1)
 
 -- where no node is a variable, the terms are ground
 mutual
@@ -334,7 +325,7 @@ mutual
 
   terms_ground : (ts : Trees) → AllByRecursion IsClosed (heads_among ts) → AreGround ts
   terms_ground no_trees all = tt
-  terms_ground (more_trees t rest) all = (term_ground t (left_all (heads_of t) (heads_among rest) all), terms_ground rest (right_all (heads_of t) (heads_among rest) all))
+  terms_ground (more_trees t rest) all = let parts = parts_all (heads_of t) (heads_among rest) all in (term_ground t parts.0, terms_ground rest parts.1)
 
 head_closed : (source : Source) (vars : List (List ℕ)) (blanks : ℕ) (shape : RawKind) (at : Span) (args : ℕ) → shape ≡ kind.App → IsClosed (head_at source vars blanks shape at args)
 head_closed source vars blanks shape at args is = grind arith
@@ -354,24 +345,6 @@ atoms_ground source vars blanks (raw ∷ raws) (atom ∷ atoms) closed by = (
 )
 atoms_ground source vars blanks raws atoms closed by = grind arith
 
--- what is found stands in the list
-found_first : {Y : Type 0} (p : Y → Bool) (b : Bool) (z y : Y) (ys : List Y) (further : Option Y) → cond b (Some z) further ≡ Some y → (further ≡ Some y → Contains ys y) → Contains (z ∷ ys) y
-found_first p b z y ys further found later = grind (arith, contains_first, contains_behind)
-
-found_there : {Y : Type 0} (p : Y → Bool) (ys : List Y) (y : Y) → find p ys ≡ Some y → Contains ys y
-found_there p [] y found = absurd cc
-found_there p (z ∷ ys) y found = found_first p (p z) z y ys (find p ys) found (λ later. found_there p ys y later)
-
--- what passes is kept
-kept_by : {Y : Type 0} (b : Bool) (z y : Y) (ys : List Y) → (z ≡ y) ⊎ Contains ys y → (z ≡ y → b ≡ true) → Contains (cond b (z ∷ ys) ys) y
-kept_by true z y ys there passes = ⊎_elim (λ (same : z ≡ y). subst (Contains (z ∷ ys)) same (contains_first z ys)) (λ later. contains_behind z ys y later) there
-kept_by false z y ys there passes = ⊎_elim (λ (same : z ≡ y). let passed : false ≡ true = passes same in absurd cc) (λ later. later) there
-
-kept : {Y : Type 0} (p : Y → Bool) (ys : List Y) (y : Y) → Contains ys y → p y ≡ true → Contains (filter p ys) y
-kept p [] y there passes = there
-kept p (z ∷ ys) y there passes =
-    kept_by (p z) z y (filter p ys) (⊎_elim (λ same. inl same) (λ later. inr (kept p ys y later passes)) (contains_cases z ys y there)) (λ same. ap p same ∙ passes)
-
 module _ (source : Source) where
   abbrev listed_by : ContextItem → List RawAtom
   listed_by context = context.atoms
@@ -383,13 +356,14 @@ module _ (source : Source) where
   of_context : (found : Option ContextItem) (name : List ℕ) (raw : RawAtom) → context_named source name ≡ found → Contains (unwrap_or (option_map (λ (context : ContextItem). context.atoms) found) []) raw → Contains (state_atoms source) raw
   of_context None name raw is there = absurd (contains_none raw there)
   of_context (Some context) name raw is there =
-      let found = found_there (λ (c : ContextItem). bytes_eq (said source c.name) name) (contexts_of source) context is in
+      let test = λ (c : ContextItem). bytes_eq (said source c.name) name in
+      let found = contains_at (contexts_of source) (position_or_len test (contexts_of source)) context (sym (find_at test (contexts_of source)) ∙ is) in
       contains_left (flat_map listed_by (contexts_of source)) _ raw (contains_flat listed_by (contexts_of source) context raw found there)
 
   of_braces : (trace : TraceItem) (raw : RawAtom) → Contains (traces_of source) trace → Contains (start_listed trace.start) raw → stands_for_context source raw ≡ false → Contains (state_atoms source) raw
   of_braces trace raw there inside alone_ =
       contains_right (flat_map listed_by (contexts_of source)) (flat_map alone (traces_of source)) raw
-      (contains_flat alone (traces_of source) trace raw there (kept (λ atom. not (stands_for_context source atom)) (start_listed trace.start) raw inside (ap not alone_)))
+      (contains_flat alone (traces_of source) trace raw there (to_contains _ raw (in_filter (λ atom. not (stands_for_context source atom)) (start_listed trace.start) raw (from_contains (start_listed trace.start) raw inside) (ap not alone_))))
 
   in_braces : (trace : TraceItem) (atom raw : RawAtom) (b : Bool) → Contains (traces_of source) trace → Contains (start_listed trace.start) atom → stands_for_context source atom ≡ b
       → Contains (if b then listed_in source (said source atom.name) else atom ∷ []) raw → Contains (state_atoms source) raw
@@ -452,10 +426,6 @@ pub stage_here : (source : Source) (side : List RawElem) (i : ℕ) (x : RawElem)
 stage_here source side i x name h given was one = grind (arith, drop_more)
 
 -- The backward premises of a side, and what is unbound, one after another.
-
--- what is made of those that pass, of two parts
-kept_both : {X Y : Type 0} (f : X → Y) (p : X → Bool) (xs ys : List X) → map f (filter p (xs ++ ys)) ≡ map f (filter p xs) ++ map f (filter p ys)
-kept_both f p xs ys = ap (map f) (filter-append p xs ys) ∙ map-append f (filter p xs) (filter p ys)
 
 -- one element of a loop more
 pub kept_more : {X Y Z : Type 0} (f : Y → Z) (p : Y → Bool) (g : X → List Y) (xs : List X) (i : ℕ) (x : X) (old new further : List Z) → i < length xs → x ≡ get_or xs i x
@@ -576,9 +546,6 @@ module _ (tokens : List Token) where
   rule_made (item.Stage name rules) is = all_mapped (IsRuleOf tokens) IsRuleMade (λ raw. record { home = Some name; raw = raw }) rules (λ raw made. made) is.1
   rule_made _ is = tt
 
-  rules_made : (items : List RawItem) → AllByRecursion (IsItemOf tokens) items → AllByRecursion (λ (rule : RuleItem). IsRuleOf tokens rule.raw) (flat_map (λ item_. (declares item_).rules) items)
-  rules_made items all = all_flat (IsItemOf tokens) IsRuleMade (λ item_. (declares item_).rules) items rule_made all
-
   labelled_made : (labelled : Bool) (con_item : ConItem) → IsNameAt tokens con_item.sort → AllByRecursion IsClauseMade (map (λ (c : ConItem). record { head = bare c.sort; goals = [] }) (if labelled then con_item ∷ [] else []))
   labelled_made true con_item is = ((record { name = is; filled = tt; few = (let e = is.there.1 in omega arith); nodes = tt }, tt), tt)
   labelled_made false con_item is = tt
@@ -594,7 +561,7 @@ module _ (tokens : List Token) where
 
   all_made : (source : Source) → AllByRecursion (IsItemOf tokens) source.file → AreAtoms (atoms_written source)
   all_made source all =
-      let rules = rules_made source.file all in
+      let rules = all_flat (IsItemOf tokens) IsRuleMade (λ item_. (declares item_).rules) source.file rule_made all in
       both_all (IsAtomOf tokens) (needed_atoms source) _
       (all_flat IsRuleMade (IsAtomOf tokens) (λ (rule : RuleItem). atoms_of rule.raw.left) (rules_of source) (λ rule is. side_atoms rule.raw.left is.left) rules)
       (both_all (IsAtomOf tokens) (made_atoms source) _

@@ -32,7 +32,7 @@ use Rattle.cep_source.specs.Spaces.{con_named}
 use Rattle.cep_source.specs.Uses.{stands_for_context, state_atoms}
 use Rattle.cep_types.specs.Sites.IsScope.{rule, clause, state}
 use Rattle.cep_types.specs.Sites.Mistyped.{constructor, variable}
-use Rattle.cep_base.proofs.Members.{In, here, there, in_nil, in_one, in_left, in_right, in_parts, through, via, to_contains, from_contains, in_same}
+use Rattle.cep_base.proofs.Members.{in_filter, from_filter, In, here, in_nil, in_one, in_left, in_right, in_parts, through, via, to_contains, from_contains, in_same}
 use Rattle.cep_parse.specs.declared.raw.RawKind.TheVariants as kind
 
 -- the nodes of terms
@@ -79,15 +79,11 @@ pub no_sites : (source : Source) (next : List (List ℕ)) → sites_from source 
 no_sites source next = grind arith
 
 -- all nodes of an atom were met
-pub meeting_ends : (source : Source) (atom : RawAtom) (sites : List Site) (nodes : List RawNode) (start now : Variables) (next : List (List ℕ)) → sites ≡ sites_in source atom → nodes ≡ atom.nodes
-    → IsMeeting source sites nodes start now next [] → AreMet source (atom ∷ []) start now
-meeting_ends source atom sites nodes start now next sites_are nodes_are was = grind (arith, append-nil (sites_in source atom), append-nil atom.nodes, no_sites source next, was.firsts, was.blanks, was.covered)
-
 pub meeting_over : (source : Source) (atom : RawAtom) (types : List (List ℕ)) (nodes : List RawNode) (start now : Variables) (next : List (List ℕ)) (i : ℕ) → sites_from source types atom.nodes ≡ sites_in source atom → nodes ≡ atom.nodes → length nodes ≤ i
     → IsMeeting source (sites_from source types nodes) nodes start now next (drop i nodes) → AreMet source (atom ∷ []) start now
 meeting_over source atom types nodes start now next i types_are nodes_are h was =
-    meeting_ends source atom (sites_from source types nodes) nodes start now next (ap (sites_from source types) nodes_are ∙ types_are) nodes_are
-    (subst (λ (ns : List RawNode). IsMeeting source (sites_from source types nodes) nodes start now next ns) (drop_all i nodes h) was)
+    let over : IsMeeting source (sites_from source types nodes) nodes start now next [] = subst (IsMeeting source (sites_from source types nodes) nodes start now next) (drop_all i nodes h) was in
+    grind (arith, append-nil (sites_in source atom), append-nil atom.nodes, no_sites source next, over.firsts, over.blanks, over.covered)
 
 -- ---- atoms are met one after another
 
@@ -216,14 +212,6 @@ context_atoms source = flat_map (λ (context : ContextItem). context.atoms) (con
 
 abbrev trace_atoms : Source → List RawAtom
 trace_atoms source = flat_map (plain source) (traces_of source)
-
-in_filter : {X : Type 0} (p : X → Bool) (xs : List X) (x : X) → In xs x → p x ≡ true → In (filter p xs) x
-in_filter p (x ∷ xs) y (there a b c m) is = grind (arith, in_filter p xs y m is, there)
-in_filter p xs y h is = grind (arith, in_nil, here)
-
-from_filter : {X : Type 0} (p : X → Bool) (xs : List X) (x : X) → In (filter p xs) x → In xs x
-from_filter p [] x h = absurd (in_nil x h)
-from_filter p (x ∷ xs) y h = grind (arith, from_filter p xs y, in_parts (x ∷ []) (filter p xs) y, in_one x y, here x xs, there x y xs)
 
 found_none : {X : Type 0} (p : X → Bool) (xs : List X) → list_any p xs ≡ false → find p xs ≡ None
 found_none p [] e = refl

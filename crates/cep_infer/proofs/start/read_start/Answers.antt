@@ -1,4 +1,4 @@
-use Rattle.std.proofs.Common.{map, subst, sym, ap, ◌∙◌}
+use Rattle.std.proofs.Common.{map, ap, ◌∙◌}
 use Rattle.std.specs.List.Sorted.{IsPermutation}
 use Rattle.std.proofs.lemmas.Result.{IfOk-weaker}
 use Rattle.cep_term.specs.Tree.{IsGroundAtom, atom_of}
@@ -13,13 +13,13 @@ pub add_all-requires : goal.add_all-requires
 add_all-requires c =
     let trees = map (λ atom. atom_of atom.now) c.deref.result.now in
     all_reordered IsGroundAtom c.in_ok-atoms.atoms trees
-    (subst (λ items. IsPermutation c.in_ok-atoms.atoms (map (λ atom. atom_of atom.now) items)) (sym c.deref.ensures.value) c.in_ok-rising.ensures)
+    (rw c.deref.ensures.value c.in_ok-rising.ensures)
     (start_ground c.args.source.now (trace_item c.args.trace.now) c.in_ok-atoms.atoms c.requires.named c.requires.there c.in_ok-atoms.ensures)
 
 pub returns : goal.returns
 returns c =
     let trees = map (λ atom. atom_of atom.now) c.deref.result.now in
-    let same : IsPermutation c.in_ok-atoms.atoms trees = subst (λ items. IsPermutation c.in_ok-atoms.atoms (map (λ atom. atom_of atom.now) items)) (sym c.deref.ensures.value) c.in_ok-rising.ensures in
+    let same : IsPermutation c.in_ok-atoms.atoms trees = rw c.deref.ensures.value c.in_ok-rising.ensures in
     let ground = start_ground c.args.source.now (trace_item c.args.trace.now) c.in_ok-atoms.atoms c.requires.named c.requires.there c.in_ok-atoms.ensures in
     IfOk-weaker c.add_all.result _ _
     (λ bag is. record {

@@ -1,7 +1,7 @@
 use Rattle.cep_source.specs.declared.space.Space.TheVariants as space
 use Rattle.cep_source.specs.Items.{said}
 use Rattle.cep_types.specs.Heads.{number_of}
-use Rattle.cep_source.proofs.Lookups.{push_map}
+use Rattle.cep_source.proofs.Declaring.{push_map}
 use Rattle.cep_types.proofs.numbers.kinds.Goals as goal
 
 pub loop-name-preserved : goal.loop-name-preserved

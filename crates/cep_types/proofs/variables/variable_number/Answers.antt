@@ -1,6 +1,6 @@
 use Rattle.std.proofs.Common.{◌∙◌, ap, unwrap_or}
 use Rattle.std.proofs.lemmas.Result.{IfOk-weaker}
-use Rattle.cep_source.proofs.Lookups.{number_among}
+use Rattle.cep_source.proofs.Declaring.{number_among}
 use Rattle.cep_types.proofs.variables.variable_number.Goals as goal
 
 pub returns : goal.returns
