@@ -3,7 +3,7 @@ use Rattle.std.proofs.Common.{◌≡◌, ◌<◌, ◌⊎◌, inl, inr, ⊎_elim,
 use Rattle.cep_modes.specs.Places.{holds, positions_of, IsPlainClause, callees, IsAmong}
 use Rattle.cep_modes.specs.Reaching.{unset, call_of, IsCall, IsDone, IsClosed, seen_after, queue_after, calls_from, IsReachedSoFar}
 use Rattle.std.specs.List.{AllByRecursion, Contains}
-use Rattle.cep_base.proofs.Elements.{all_at, both_all, contains_none, contains_first, contains_behind, contains_cases, contains_same, contains_left, contains_right, contains_either}
+use Rattle.cep_base.proofs.Elements.{all_at, both_all, contains_none, contains_first, contains_behind, contains_cases, contains_same, contains_left, contains_right, contains_either, contains_map}
 use Rattle.cep_rule.specs.Patterns.{ClauseTree}
 use Rattle.cep_rule.specs.Groundness.{Known, SomeFails, IsBadInRound, IsBad}
 use Rattle.cep_modes.specs.declared.reach.Call.{Call}
@@ -11,7 +11,8 @@ use Rattle.cep_modes.specs.Leading.{IsLed, here, there, IsFollowed, TellsBad}
 use Rattle.cep_modes.proofs.Numbering.{fails_to, fails_from}
 use Rattle.std.proofs.lemmas.List.{append-nil, drop_all}
 use Rattle.std.proofs.lemmas.Option.{slice_get_within, slice_get-get_or}
-use Rattle.cep_base.proofs.Lists.{none_some, some_same, holds_at}
+use Rattle.cep_base.proofs.Lists.{some_same, holds_at, get_kept}
+use Rattle.cep_base.proofs.Bools.{true_false}
 
 -- Flags that are set, one after another.
 
@@ -96,15 +97,15 @@ decided clauses size numbers calls none start marked plain law closed some unset
 -- What is seen and queued, and what calls are recorded, step by step.
 
 -- some numbers more were seen
-record Sees (size : ℕ) (numbers : List ℕ) (seen after : List Bool) (queue longer : List ℕ) : Type 0 where
-  as_many : length after ≡ length seen
-  kept : (n : ℕ) → holds seen n ≡ true → holds after n ≡ true
-  each : (n : ℕ) → Contains numbers n → holds after n ≡ true
-  queued : ((n : ℕ) → holds seen n ≡ true → Contains queue n) → (n : ℕ) → holds after n ≡ true → Contains longer n
-  more : List ℕ
-  extends : longer ≡ queue ++ more
-  within : AllByRecursion (λ n. n < size) queue → AllByRecursion (λ n. n < size) longer
-  total : unset after + length longer ≡ unset seen + length queue
+pub record Sees (size : ℕ) (numbers : List ℕ) (seen after : List Bool) (queue longer : List ℕ) : Type 0 where
+  pub as_many : length after ≡ length seen
+  pub kept : (n : ℕ) → holds seen n ≡ true → holds after n ≡ true
+  pub each : (n : ℕ) → Contains numbers n → holds after n ≡ true
+  pub queued : ((n : ℕ) → holds seen n ≡ true → Contains queue n) → (n : ℕ) → holds after n ≡ true → Contains longer n
+  pub more : List ℕ
+  pub extends : longer ≡ queue ++ more
+  pub within : AllByRecursion (λ n. n < size) queue → AllByRecursion (λ n. n < size) longer
+  pub total : unset after + length longer ≡ unset seen + length queue
 
 sees_none : (size : ℕ) (seen : List Bool) (queue : List ℕ) → Sees size [] seen seen queue queue
 sees_none size seen queue = grind (arith, contains_none, append-nil)
@@ -154,17 +155,13 @@ sees_all size (n ∷ numbers) seen queue long low =
     (sees_one size n seen queue long low.0)
     (sees_all size numbers (slice_set seen n true) (cond (holds seen n) queue (queue ++ n ∷ [])) (length-set seen n true ∙ long) low.1)
 
-sees : (size : ℕ) (numbers : List ℕ) (seen after : List Bool) (queue longer : List ℕ) → length seen ≡ size → AllByRecursion (λ n. n < size) numbers
+pub sees : (size : ℕ) (numbers : List ℕ) (seen after : List Bool) (queue longer : List ℕ) → length seen ≡ size → AllByRecursion (λ n. n < size) numbers
     → after ≡ seen_after numbers seen → longer ≡ queue_after numbers seen queue → Sees size numbers seen after queue longer
 sees size numbers seen after queue longer long low e f = grind (arith, sees_all size numbers seen queue long low)
 
 got_before : (xs ys : List ℕ) (k n : ℕ) → k < length xs → slice_get (xs ++ ys) k ≡ Some n → slice_get xs k ≡ Some n
 got_before (x ∷ xs) ys (suc k) n low got = got_before xs ys k n (omega arith) got
 got_before xs ys k n low got = grind arith
-
-got_after : (xs ys : List ℕ) (k n : ℕ) → slice_get xs k ≡ Some n → slice_get (xs ++ ys) k ≡ Some n
-got_after (x ∷ xs) ys (suc k) n got = got_after xs ys k n got
-got_after xs ys k n got = grind (arith, none_some)
 
 -- more is seen
 saw : (clauses : List ClauseTree) (size : ℕ) (numbers : List ℕ) (seen after : List Bool) (queue longer : List ℕ) (calls : List Call) (done : ℕ)
@@ -202,14 +199,6 @@ counted clauses size seen queue calls done n at now is = record {
       below_more P done (λ i low j present. is.gone i j low present) (λ j present. subst (IsDone clauses seen calls) (some_same n j (sym at ∙ present)) now) k before m got;
 }
 
-call_there : (n : ℕ) (numbers : List ℕ) (m : ℕ) → Contains numbers m → Contains (calls_from n numbers) (call_of n m)
-call_there n [] m h = absurd (contains_none m h)
-call_there n (x ∷ numbers) m h =
-    ⊎_elim
-    (λ e. contains_same (call_of n x) (calls_from n numbers) (call_of n m) (ap (call_of n) e))
-    (λ later. contains_behind (call_of n x) (calls_from n numbers) (call_of n m) (call_there n numbers m later))
-    (contains_cases x numbers m h)
-
 made : (clauses : List ClauseTree) (size n : ℕ) (numbers : List ℕ) → n < size → AllByRecursion (λ m. m < size) numbers
     → ((m : ℕ) → Contains numbers m → Contains (callees clauses n) m) → AllByRecursion (IsCall clauses size) (calls_from n numbers)
 made clauses size n [] low within present = tt
@@ -219,63 +208,31 @@ made clauses size n (x ∷ numbers) low within present = (
 )
 
 -- one number more is done, and what it calls is seen and recorded
-pub step : (clauses : List ClauseTree) (size : ℕ) (seen after : List Bool) (queue longer : List ℕ) (calls more : List Call) (done n : ℕ) (numbers : List ℕ)
-    → IsReachedSoFar clauses size seen queue calls done → slice_get queue done ≡ Some n → numbers ≡ callees clauses n
-    → AllByRecursion (λ m. m < size) numbers → more ≡ calls ++ calls_from n numbers
-    → after ≡ seen_after numbers seen → longer ≡ queue_after numbers seen queue
-    → IsReachedSoFar clauses size after longer more (done + 1)
-step clauses size seen after queue longer calls more done n numbers is at called within records sees_them queues_them =
-    let saw_them = sees size numbers seen after queue longer is.as_many within sees_them queues_them in
-    let before : done < length queue = slice_get_within queue done n at in
-    let low : n < size = holds_at (λ x. x < size) queue done n is.within at in
-    let known : IsReachedSoFar clauses size after longer calls done = saw clauses size numbers seen after queue longer calls done (omega arith) saw_them is in
-    let all : IsReachedSoFar clauses size after longer (calls ++ calls_from n numbers) done =
-    recorded clauses size after longer calls (calls_from n numbers) done (made clauses size n numbers low within (λ m h. subst (λ list. Contains list m) called h)) known
+pub step : (clauses : List ClauseTree) (size : ℕ) (seen after : List Bool) (queue longer : List ℕ) (calls more : List Call) (done n : ℕ)
+    → IsReachedSoFar clauses size seen queue calls done → slice_get queue done ≡ Some n → AllByRecursion (λ m. m < size) (callees clauses n)
+    → more ≡ calls ++ calls_from n (callees clauses n) → Sees size (callees clauses n) seen after queue longer → IsReachedSoFar clauses size after longer more (done + 1)
+step clauses size seen after queue longer calls more done n is at within records saw_them =
+    let new : List Call = calls_from n (callees clauses n) in
+    let known = saw clauses size (callees clauses n) seen after queue longer calls done (let before = slice_get_within queue done n at in omega arith) saw_them is in
+    let all : IsReachedSoFar clauses size after longer (calls ++ new) done =
+    recorded clauses size after longer calls new done (made clauses size n (callees clauses n) (holds_at (λ x. x < size) queue done n is.within at) within (λ m h. h)) known
     in
-    let present : slice_get longer done ≡ Some n = ap (λ list. slice_get list done) saw_them.extends ∙ got_after queue saw_them.more done n at in
-    subst (λ list. IsReachedSoFar clauses size after longer list (done + 1)) (sym records)
-    (counted clauses size after longer (calls ++ calls_from n numbers) done n present
-    (λ m h. (contains_right calls (calls_from n numbers) (call_of n m) (call_there n numbers m (subst (λ list. Contains list m) (sym called) h)), saw_them.each m (subst (λ list. Contains list m) (sym called) h)))
-    all)
+    rw records
+    (counted clauses size after longer (calls ++ new) done n (ap (λ list. slice_get list done) saw_them.extends ∙ get_kept queue saw_them.more done n at)
+    (λ m h. (contains_right calls new (call_of n m) (contains_map (call_of n) (callees clauses n) m h), saw_them.each m h)) all)
 
 -- at first nothing is seen but the first numbers
 pub start : (clauses : List ClauseTree) (size : ℕ) (none after : List Bool) (numbers queue longer : List ℕ) (calls : List Call) → queue ≡ [] → calls ≡ []
-    → length none ≡ size → ((n : ℕ) → holds none n ≡ false) → AllByRecursion (λ m. m < size) numbers
-    → after ≡ seen_after numbers none → longer ≡ queue_after numbers none queue → IsReachedSoFar clauses size after longer calls 0
-start clauses size none after numbers queue longer calls no_queue no_calls long all within sees_them queues_them =
-    let P : List Call → Type 0 = λ list. IsReachedSoFar clauses size after longer list 0 in
-    subst P (sym no_calls)
-    (saw clauses size numbers none after [] longer [] 0 (omega arith) (sees size numbers none after [] longer long within sees_them (queues_them ∙ ap (queue_after numbers none) no_queue))
+    → length none ≡ size → ((n : ℕ) → holds none n ≡ false) → Sees size numbers none after queue longer → IsReachedSoFar clauses size after longer calls 0
+start clauses size none after numbers queue longer calls no_queue no_calls long all saw_them =
+    saw clauses size numbers none after queue longer calls 0 (omega arith) saw_them
     (record {
       as_many = long;
-      queued = λ n h. absurd (unset_set (holds none n) (all n) h);
-      within = tt;
-      called = tt;
+      queued = λ n h. true_false (holds none n) h (all n);
+      within = rw no_queue tt;
+      called = rw no_calls tt;
       gone = λ k n before got. absurd (omega arith);
-    }))
-  where
-    unset_set : (b : Bool) → b ≡ false → b ≡ true → ⊥
-    unset_set b e h = cc
-
--- each of the numbers is seen then
-pub each_seen : (size : ℕ) (numbers : List ℕ) (seen after : List Bool) (queue longer : List ℕ) → length seen ≡ size → AllByRecursion (λ n. n < size) numbers
-    → after ≡ seen_after numbers seen → longer ≡ queue_after numbers seen queue → (n : ℕ) → Contains numbers n → holds after n ≡ true
-each_seen size numbers seen after queue longer long low e f = (sees size numbers seen after queue longer long low e f).each
-
--- what was seen before is seen then
-pub still_seen : (size : ℕ) (numbers : List ℕ) (seen after : List Bool) (queue longer : List ℕ) → length seen ≡ size → AllByRecursion (λ n. n < size) numbers
-    → after ≡ seen_after numbers seen → longer ≡ queue_after numbers seen queue → (n : ℕ) → holds seen n ≡ true → holds after n ≡ true
-still_seen size numbers seen after queue longer long low e f = (sees size numbers seen after queue longer long low e f).kept
-
--- as many as before are unseen or queued
-pub same_total : (size : ℕ) (numbers : List ℕ) (seen after : List Bool) (queue longer : List ℕ) → length seen ≡ size → AllByRecursion (λ n. n < size) numbers
-    → after ≡ seen_after numbers seen → longer ≡ queue_after numbers seen queue → unset after + length longer ≡ unset seen + length queue
-same_total size numbers seen after queue longer long low e f = (sees size numbers seen after queue longer long low e f).total
-
--- the queue is no shorter
-pub no_shorter : (size : ℕ) (numbers : List ℕ) (seen after : List Bool) (queue longer : List ℕ) → length seen ≡ size → AllByRecursion (λ n. n < size) numbers
-    → after ≡ seen_after numbers seen → longer ≡ queue_after numbers seen queue → length queue ≤ length longer
-no_shorter size numbers seen after queue longer long low e f = grind (arith, sees size numbers seen after queue longer long low e f, length-append)
+    })
 
 -- when all of the queue is done, all that is reached is
 pub closed : (clauses : List ClauseTree) (size : ℕ) (seen : List Bool) (first queue : List ℕ) (calls : List Call) (done : ℕ)

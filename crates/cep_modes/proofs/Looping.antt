@@ -1,11 +1,10 @@
 -- Numbers are gathered, and clauses stand by their predicates.
-use Rattle.std.proofs.Common.{◌≡◌, ◌≤◌, ◌+◌, ℕ, suc, ◌==◌, Bool, true, false, cond, List, [], ◌∷◌, ◌++◌, length, drop, slice_get, Some, ap, sym, ◌∙◌, append_assoc, add-one, ◌<◌, ◌-◌, ◌*◌, ◌/◌, ◌%◌, map, slice_index_or, Vec, Global, refl, add-zero, zero-add, arith}
+use Rattle.std.proofs.Common.{◌≡◌, ◌≤◌, ◌+◌, ℕ, suc, ◌==◌, Bool, true, false, cond, List, [], ◌∷◌, ◌++◌, length, drop, slice_get, Some, ap, sym, ◌∙◌, append_assoc, ◌<◌, ◌-◌, ◌*◌, ◌/◌, ◌%◌, map, slice_index_or, Vec, Global, refl, add-zero, zero-add, arith}
 use Rattle.std.proofs.lemmas.List.{append-nil, drop_all}
 use Rattle.cep_term.specs.Tree.{AtomTree}
-use Rattle.cep_rule.specs.declared.rule.Rule.{Rule}
 use Rattle.cep_rule.specs.Patterns.{ClauseTree}
 use Rattle.cep_rule.specs.Groundness.{Known, nothing, are_known, known_at, known_after, known_after_all}
-use Rattle.cep_modes.specs.Places.{either, pair_place, places_of, zero_unless, clause_callees, numbers_of, callees_by, rule_places, all_places, positions_of, IsClauseTable, some_callees, callees_of, callees}
+use Rattle.cep_modes.specs.Places.{either, pair_place, places_of, zero_unless, clause_callees, numbers_of, callees_by, positions_of, IsClauseTable, some_callees, callees_of, callees}
 pub use Rattle.cep_base.proofs.Drops.{drop_at as drop_got}
 use Rattle.std.specs.List.{AllByRecursion}
 use Rattle.cep_base.proofs.Lists.{holds_at, get_mapped, all_weaker}
@@ -16,18 +15,6 @@ use Rattle.std.proofs.lemmas.Option.{slice_get_read}
 -- one more stands at the end, and all else after it
 pub one_more : {X : Type 0} (found : List X) (x : X) (left : List X) → (found ++ x ∷ []) ++ left ≡ found ++ x ∷ left
 one_more found x left = append_assoc found (x ∷ []) left
-
-pub number_kept : (pred i : ℕ) (clauses : List ClauseTree) (clause : ClauseTree) (found new whole : List ℕ)
-    → slice_get clauses i ≡ Some clause → (clause.head.pred == pred) ≡ true → new ≡ found ++ i ∷ []
-    → found ++ numbers_of pred i (drop i clauses) ≡ whole
-    → new ++ numbers_of pred (i + 1) (drop (i + 1) clauses) ≡ whole
-number_kept pred i clauses clause found new whole got same is all = cc (is, one_more found i (numbers_of pred (i + 1) (drop (i + 1) clauses)), add-one i, same, drop_got clauses i clause got, all)
-
-pub number_passed : (pred i : ℕ) (clauses : List ClauseTree) (clause : ClauseTree) (found new whole : List ℕ)
-    → slice_get clauses i ≡ Some clause → (clause.head.pred == pred) ≡ false → new ≡ found
-    → found ++ numbers_of pred i (drop i clauses) ≡ whole
-    → new ++ numbers_of pred (i + 1) (drop (i + 1) clauses) ≡ whole
-number_passed pred i clauses clause found new whole got other is all = cc (is, add-one i, other, drop_got clauses i clause got, all)
 
 pub call_found : (goals : List AtomTree) (i : ℕ) (goal : AtomTree) (known after : Known) (found new whole : List ℕ)
     → slice_get goals i ≡ Some goal → new ≡ found ++ pair_place known goal ∷ [] → after ≡ known_after known goal
@@ -40,12 +27,6 @@ pub goal_learnt : (goals : List AtomTree) (i : ℕ) (goal : AtomTree) (known aft
     → known_after_all known (drop i goals) ≡ whole
     → known_after_all after (drop (i + 1) goals) ≡ whole
 goal_learnt goals i goal known after whole got learnt all = ap (λ now. known_after_all now (drop (i + 1) goals)) learnt ∙ ap (known_after_all known) (sym (drop_got goals i goal got)) ∙ all
-
-pub rule_found : (rules : List Rule) (i : ℕ) (rule : Rule) (found new whole : List ℕ)
-    → slice_get rules i ≡ Some rule → new ≡ found ++ rule_places rule
-    → found ++ all_places (drop i rules) ≡ whole
-    → new ++ all_places (drop (i + 1) rules) ≡ whole
-rule_found rules i rule found new whole got is all = cc (is, append_assoc found (rule_places rule) (all_places (drop (i + 1) rules)), drop_got rules i rule got, all)
 
 pub clause_called : (clause : ClauseTree) (positions first then_known last : Known) (all : Bool) (old middle new : List ℕ)
     → first ≡ nothing → then_known ≡ either first (known_at positions clause.head.args)

@@ -1,18 +1,19 @@
 -- What is known after one thing and another was learnt.
-use Rattle.std.proofs.Common.{◌≡◌, ◌/◌, ℕ, suc, ◌&&◌, ◌||◌, Bool, true, false, List, [], ◌∷◌, ap, sym, ◌∙◌, arith, ◌<◌, ◌+◌, ◌*◌, ◌%◌, ◌==◌, zero, cond, refl, ◌≢◌, ◌⊎◌, inl, inr, ⊎_elim, ◌++◌, slice_get, Some, subst, eq-eqb, length, map, take, drop, ◌≤◌, Option, None}
+use Rattle.std.proofs.Common.{◌≡◌, ◌/◌, ℕ, suc, ◌&&◌, ◌||◌, Bool, true, false, List, [], ◌∷◌, ap, sym, ◌∙◌, arith, ◌<◌, ◌+◌, ◌*◌, ◌%◌, ◌==◌, zero, cond, refl, ◌⊎◌, inl, inr, ⊎_elim, ◌++◌, slice_get, Some, subst, eq-eqb, length, map, take, drop, ◌≤◌, Option, None}
 use Rattle.cep_term.specs.Tree.{Tree, Trees, node, more, AtomTree, none, variable, Occurs, OccursAmong, IsInRange, AreInRange}
 use Rattle.cep_rule.specs.Groundness.{Known, nothing, occurs, occurs_among, known_at, is_known, positions_known, are_known, known_after, known_after_all, CallsAt, Calls, LeavesUnknown, SomeFails, IsBad}
 use Rattle.cep_modes.specs.Places.{holds, either, positions_of, set_number, room, IsPlain, pair_place, IsAmong, IsPlainClause, places_of, zero_unless, clause_callees, callees_of, rule_places, all_places, callees}
 use Rattle.std.specs.List.{AllByRecursion, Contains}
-use Rattle.std.proofs.lemmas.Bool.Decides.{eqb_tells}
-use Rattle.std.proofs.lemmas.Option.{slice_get-get_or, slice_get_within, get_or_from_slice_get}
-use Rattle.cep_base.proofs.Lists.{none_some, some_same, take_next, get_mapped, holds_at}
-use Rattle.cep_base.proofs.Elements.{contains_none, contains_first, contains_left, contains_right, contains_either, all_at, all_of, both_all}
+use Rattle.std.proofs.lemmas.Bool.{eqb-true}
+use Rattle.std.proofs.lemmas.Option.{slice_get-get_or, slice_get_within}
+use Rattle.cep_base.proofs.Lists.{none_some, some_same, take_next, get_mapped, holds_at, all_weaker, all_from_places}
+use Rattle.cep_base.proofs.Elements.{contains_none, contains_first, contains_at, contains_left, contains_right, contains_either, all_at, all_of, both_all}
 use Rattle.cep_rule.specs.Patterns.{ClauseTree}
 use Rattle.std.proofs.lemmas.List.{append-nil, drop_all, take_all, length-map}
 use Rattle.cep_rule.specs.declared.rule.Rule.{Rule}
 use Rattle.cep_rule.specs.Binding.{needed_of}
-use Rattle.cep_modes.specs.Grounding.{AreMarks, AreAllMarks}
+use Rattle.cep_modes.specs.Grounding.{AreMarks, AreAllMarks, AreInOrder}
+use Rattle.cep_rule.specs.declared.parts.Parts.{Parts}
 use Rattle.cep_modes.specs.Leading.{TellsBad}
 use Rattle.std.specs.Prelude.{IsSomeAnd}
 use Rattle.cep_rule.specs.declared.signature.Signature.{Signature}
@@ -115,16 +116,9 @@ mutual
   unknown_args : (known : Known) (v : ℕ) (args : Trees) → OccursAmong v args → known v ≡ false → are_known known args ≡ false
   unknown_args known v none among h = absurd among
   unknown_args known v (more t rest) among h =
-      ⊎_elim (λ here. left (is_known known t) (are_known known rest) (unknown_term known v t here h))
-      (λ later. right (is_known known t) (are_known known rest) (unknown_args known v rest later h)) among
-    where
-      left : (a b : Bool) → a ≡ false → (a && b) ≡ false
-      left true b e = cc
-      left false b e = refl
-
-      right : (a b : Bool) → b ≡ false → (a && b) ≡ false
-      right true b e = e
-      right false b e = refl
+      let here : Occurs v t → is_known known t ≡ false = λ e. unknown_term known v t e h in
+      let later : OccursAmong v rest → are_known known rest ≡ false = λ e. unknown_args known v rest e h in
+      grind arith
 
 -- where not all is known, some variable is unknown
 record Unknown (known : Known) (P : ℕ → Type 0) : Type 0 where
@@ -179,7 +173,7 @@ clause_to pairs positions clause plain fails =
     let it = calls_to pairs known clause.goals calls.0 plain.goals calls.1 in
     record {
       number = it.number;
-      called = contains_left numbers (zero_unless all) it.number (calls.0, (slice_get_within numbers calls.0 it.number it.at), (get_or_from_slice_get numbers calls.0 it.number it.number it.at));
+      called = contains_left numbers (zero_unless all) it.number (contains_at numbers calls.0 it.number it.at);
       among = it.among;
     })
     (λ leaves.
@@ -203,53 +197,40 @@ clause_from pairs positions clause m plain called among =
     (contains_either numbers (zero_unless all) m called)
   where
     not_all : (b : Bool) → Contains (zero_unless b) m → b ≡ false
-    not_all true there = absurd (contains_none m there)
-    not_all false there = refl
+    not_all b there = grind arith
+
+behind : (b : Bool) (xs ys : List ℕ) (m : ℕ) → Contains ys m → Contains (cond b (xs ++ ys) ys) m
+behind true xs ys m there = contains_right xs ys m there
+behind false xs ys m there = there
 
 pub fails_to : (pairs : ℕ → Known → Type 0) (pred : ℕ) (positions : Known) (clauses : List ClauseTree) → AllByRecursion (IsPlainClause 32) clauses
     → SomeFails clauses pairs pred positions → CallsAmong pairs (callees_of pred positions clauses)
 fails_to pairs pred positions [] plain fails = absurd fails
 fails_to pairs pred positions (clause ∷ clauses) plain fails =
     ⊎_elim
-    (λ here. first (clause.head.pred == pred) (eq-eqb clause.head.pred pred here.0) (clause_to pairs positions clause plain.0 here.1))
-    (λ later. second (clause.head.pred == pred) (fails_to pairs pred positions clauses plain.1 later))
+    (λ here.
+    let it = clause_to pairs positions clause plain.0 here.1 in
+    record { number = it.number; called = rw (eq-eqb clause.head.pred pred here.0) (contains_left (clause_callees positions clause) (callees_of pred positions clauses) it.number it.called); among = it.among })
+    (λ later.
+    let it = fails_to pairs pred positions clauses plain.1 later in
+    record { number = it.number; called = behind (clause.head.pred == pred) (clause_callees positions clause) (callees_of pred positions clauses) it.number it.called; among = it.among })
     fails
-  where
-    first : (b : Bool) → b ≡ true → CallsAmong pairs (clause_callees positions clause)
-        → CallsAmong pairs (cond b (clause_callees positions clause ++ callees_of pred positions clauses) (callees_of pred positions clauses))
-    first true e it = record { number = it.number; called = contains_left (clause_callees positions clause) (callees_of pred positions clauses) it.number it.called; among = it.among }
-    first false e it = absurd (cc)
 
-    second : (b : Bool) → CallsAmong pairs (callees_of pred positions clauses)
-        → CallsAmong pairs (cond b (clause_callees positions clause ++ callees_of pred positions clauses) (callees_of pred positions clauses))
-    second true it = record { number = it.number; called = contains_right (clause_callees positions clause) (callees_of pred positions clauses) it.number it.called; among = it.among }
-    second false it = it
+cond_cases : (b : Bool) (P : Type 0) (xs ys : List ℕ) (m : ℕ) → (b ≡ true → P) → Contains (cond b (xs ++ ys) ys) m → (P × Contains xs m) ⊎ Contains ys m
+cond_cases true P xs ys m so there = ⊎_elim (λ here. inl (so refl, here)) (λ later. inr later) (contains_either xs ys m there)
+cond_cases false P xs ys m so there = inr there
 
 pub fails_from : (pairs : ℕ → Known → Type 0) (pred : ℕ) (positions : Known) (clauses : List ClauseTree) (m : ℕ) → AllByRecursion (IsPlainClause 32) clauses
     → Contains (callees_of pred positions clauses) m → IsAmong pairs m → SomeFails clauses pairs pred positions
 fails_from pairs pred positions [] m plain called among = absurd (contains_none m called)
 fails_from pairs pred positions (clause ∷ clauses) m plain called among =
-    by (clause.head.pred == pred) (eqb_tells clause.head.pred pred) called (λ there. fails_from pairs pred positions clauses m plain.1 there among)
-  where
-    by : (b : Bool) → ((b ≡ true) × (clause.head.pred ≡ pred)) ⊎ ((b ≡ false) × (clause.head.pred ≢ pred))
-        → Contains (cond b (clause_callees positions clause ++ callees_of pred positions clauses) (callees_of pred positions clauses)) m
-        → (Contains (callees_of pred positions clauses) m → SomeFails clauses pairs pred positions)
-        → SomeFails (clause ∷ clauses) pairs pred positions
-    by true tells there rest =
-        ⊎_elim
-        (λ here. inl ((⊎_elim (λ same. same.1) (λ other. let e : true ≡ false = other.0 in absurd (cc)) tells), clause_from pairs positions clause m plain.0 here among))
-        (λ later. inr (rest later))
-        (contains_either (clause_callees positions clause) (callees_of pred positions clauses) m there)
-    by false tells there rest = inr (rest there)
+    ⊎_elim (λ here. inl (here.0, clause_from pairs positions clause m plain.0 here.1 among)) (λ later. inr (fails_from pairs pred positions clauses m plain.1 later among)) (cond_cases (clause.head.pred == pred) _ (clause_callees positions clause) (callees_of pred positions clauses) m (eqb-true clause.head.pred pred) called)
 
 -- The premises that are marked are those that call bad pairs.
 
 -- all that is written into a whole slice stands there
 pub written : (n : ℕ) (new old : List Bool) → length new ≡ length old → n ≡ length old → take n (new ++ drop (length new) old) ≡ new
 written n new old same long = grind (arith, drop_all, append-nil, take_all)
-
-there : (numbers : List ℕ) (i n : ℕ) → slice_get numbers i ≡ Some n → Contains numbers n
-there numbers i n at = (i, (slice_get_within numbers i n at), (get_or_from_slice_get numbers i n n at))
 
 among_all : (rules : List Rule) (r : ℕ) (rule : Rule) (n : ℕ) → slice_get rules r ≡ Some rule → Contains (rule_places rule) n → Contains (all_places rules) n
 among_all (one ∷ rules) (suc r) rule n at here = contains_right (rule_places one) (all_places rules) n (among_all rules r rule n at here)
@@ -279,10 +260,10 @@ marks_say clauses rules marked r rule marks tells at plain same = record {
     (λ yes_.
         let it = mapped_true marked (rule_places rule) i (ap (λ ms. slice_get ms i) (sym same) ∙ yes_) in
         calls_from (IsBad clauses) (known_after_all nothing (needed_of rule)) rule.backs i it.0 plain it.1
-        ((tells.told it.0 (among_all rules r rule it.0 at (there (rule_places rule) i it.0 it.1))).0 it.2)),
+        ((tells.told it.0 (among_all rules r rule it.0 at (contains_at (rule_places rule) i it.0 it.1))).0 it.2)),
     (λ bad.
         let it = calls_to (IsBad clauses) (known_after_all nothing (needed_of rule)) rule.backs i plain bad in
-        let yes_ : holds marked it.number ≡ true = (tells.told it.number (among_all rules r rule it.number at (there (rule_places rule) i it.number it.at))).1 it.among in
+        let yes_ : holds marked it.number ≡ true = (tells.told it.number (among_all rules r rule it.number at (contains_at (rule_places rule) i it.number it.at))).1 it.among in
         ap (λ ms. slice_get ms i) same ∙ get_mapped (holds marked) (rule_places rule) i it.number it.at ∙ ap Some yes_),
   );
 }
@@ -344,63 +325,6 @@ fine laws signature small kinds a few typed =
       declared = slice_get_within signature.preds a.pred pred at;
     }
 
-fine_atoms : TypeLaws → (signature : Signature) → IsSmallSignature signature → (kinds : List ℕ) (atoms : List AtomTree) → length kinds ≤ 32
-    → AllByRecursion (IsTyped signature kinds) atoms → AllByRecursion (IsFine (length signature.preds)) atoms
-fine_atoms laws signature small kinds [] few typed = tt
-fine_atoms laws signature small kinds (a ∷ atoms) few typed = (fine laws signature small kinds a few typed.0, fine_atoms laws signature small kinds atoms few typed.1)
-
-plain_atoms : (preds : ℕ) (atoms : List AtomTree) → AllByRecursion (IsFine preds) atoms → AllByRecursion (IsPlain 32) atoms
-plain_atoms preds [] all = tt
-plain_atoms preds (a ∷ atoms) all = (all.0.plain, plain_atoms preds atoms all.1)
-
--- The atoms of a clause are so.
-pub record IsFineClause (preds : ℕ) (clause : ClauseTree) : Type 0 where
-  pub head : IsFine preds clause.head
-  pub goals : AllByRecursion (IsFine preds) clause.goals
-
-pub fine_clauses : TypeLaws → (signature : Signature) → IsSmallSignature signature → (clauses : List ClauseTree)
-    → AllByRecursion IsSmallClause clauses → AllByRecursion (IsTypedClause signature) clauses → AllByRecursion (IsFineClause (length signature.preds)) clauses
-fine_clauses laws signature small [] few typed = tt
-fine_clauses laws signature small (clause ∷ clauses) few typed =
-    let vars : length clause.vars ≤ 32 = few.0.vars in
-    let kinds : length clause.kinds ≤ 32 = omega (arith, typed.0.kinds) in (
-      record {
-        head = fine laws signature small clause.kinds clause.head kinds typed.0.head;
-        goals = fine_atoms laws signature small clause.kinds clause.goals kinds typed.0.goals;
-      },
-      fine_clauses laws signature small clauses few.1 typed.1,
-    )
-
-pub plain_clauses : (preds : ℕ) (clauses : List ClauseTree) → AllByRecursion (IsFineClause preds) clauses → AllByRecursion (IsPlainClause 32) clauses
-plain_clauses preds [] all = tt
-plain_clauses preds (clause ∷ clauses) all = (record { head = all.0.head.plain; goals = plain_atoms preds clause.goals all.0.goals }, plain_clauses preds clauses all.1)
-
--- The premises of a rule are so.
-pub record IsFineRule (preds : ℕ) (rule : Rule) : Type 0 where
-  pub premises : AllByRecursion (IsFine preds) (needed_of rule)
-  pub backs : AllByRecursion (IsFine preds) rule.backs
-
-pub fine_rules : TypeLaws → (signature : Signature) → IsSmallSignature signature → (rules : List Rule)
-    → AllByRecursion IsSmallRule rules → AllByRecursion (IsTypedRule signature) rules → AllByRecursion (IsFineRule (length signature.preds)) rules
-fine_rules laws signature small [] few typed = tt
-fine_rules laws signature small (rule ∷ rules) few typed =
-    let vars : length rule.vars ≤ 32 = few.0.vars in
-    let kinds : length rule.kinds ≤ 32 = omega (arith, typed.0.kinds) in (
-      record {
-        premises = fine_atoms laws signature small rule.kinds (needed_of rule) kinds typed.0.premises;
-        backs = fine_atoms laws signature small rule.kinds rule.backs kinds typed.0.backs;
-      },
-      fine_rules laws signature small rules few.1 typed.1,
-    )
-
-pub plain_premises : (preds : ℕ) (rules : List Rule) → AllByRecursion (IsFineRule preds) rules → AllByRecursion (λ rule. AllByRecursion (IsPlain 32) (needed_of rule)) rules
-plain_premises preds [] all = tt
-plain_premises preds (rule ∷ rules) all = (plain_atoms preds (needed_of rule) all.0.premises, plain_premises preds rules all.1)
-
-pub plain_backs : (preds : ℕ) (rules : List Rule) → AllByRecursion (IsFineRule preds) rules → AllByRecursion (λ rule. AllByRecursion (IsPlain 32) rule.backs) rules
-plain_backs preds [] all = tt
-plain_backs preds (rule ∷ rules) all = (plain_atoms preds rule.backs all.0.backs, plain_backs preds rules all.1)
-
 -- the numbers that goals call are in range
 places_low : (preds : ℕ) (known : Known) (goals : List AtomTree) → AllByRecursion (IsFine preds) goals → AllByRecursion (λ n. n < preds * 256 + 1) (places_of known goals)
 places_low preds known [] all = tt
@@ -409,13 +333,45 @@ places_low preds known (goal ∷ goals) all = (place_low preds known goal all.0.
 zero_low : (size : ℕ) → 0 < size → (b : Bool) → AllByRecursion (λ n. n < size) (zero_unless b)
 zero_low size low b = grind arith
 
-callees_of_low : (preds pred : ℕ) (positions : Known) (clauses : List ClauseTree) → AllByRecursion (IsFineClause preds) clauses → AllByRecursion (λ n. n < preds * 256 + 1) (callees_of pred positions clauses)
+callees_of_low : (preds pred : ℕ) (positions : Known) (clauses : List ClauseTree) → AllByRecursion (λ clause. AllByRecursion (IsFine preds) (clause.head ∷ clause.goals)) clauses → AllByRecursion (λ n. n < preds * 256 + 1) (callees_of pred positions clauses)
 callees_of_low preds pred positions [] all = tt
-callees_of_low preds pred positions (clause ∷ clauses) all = grind (arith, both_all, places_low, zero_low, clause.head.args, clause.head.pred, clause.goals, all.0.goals, callees_of_low preds pred positions clauses all.1, all.1)
+callees_of_low preds pred positions (clause ∷ clauses) all = grind (arith, both_all, places_low, zero_low, clause.head.args, clause.head.pred, clause.goals, all.0.1, callees_of_low preds pred positions clauses all.1, all.1)
 
-pub callees_low : (preds : ℕ) (clauses : List ClauseTree) → AllByRecursion (IsFineClause preds) clauses → (n : ℕ) → AllByRecursion (λ m. m < preds * 256 + 1) (callees clauses n)
+callees_low : (preds : ℕ) (clauses : List ClauseTree) → AllByRecursion (λ clause. AllByRecursion (IsFine preds) (clause.head ∷ clause.goals)) clauses → (n : ℕ) → AllByRecursion (λ m. m < preds * 256 + 1) (callees clauses n)
 callees_low preds clauses all n = grind (arith, callees_of_low)
 
-pub all_low : (preds : ℕ) (rules : List Rule) → AllByRecursion (IsFineRule preds) rules → AllByRecursion (λ n. n < preds * 256 + 1) (all_places rules)
+all_low : (preds : ℕ) (rules : List Rule) → AllByRecursion (λ rule. AllByRecursion (IsFine preds) (needed_of rule) × AllByRecursion (IsFine preds) rule.backs) rules → AllByRecursion (λ n. n < preds * 256 + 1) (all_places rules)
 all_low preds [] all = tt
-all_low preds (rule ∷ rules) all = grind (arith, both_all, places_low, rule.backs, all.0.backs, all_low preds rules all.1, all.1)
+all_low preds (rule ∷ rules) all = grind (arith, both_all, places_low, rule.backs, all.0.1, all_low preds rules all.1, all.1)
+
+-- The atoms of parts that are in order are plain, and the numbers of pairs that are called are in range.
+pub record AreFine (parts : Parts) : Type 0 where
+  pub clauses : AllByRecursion (IsPlainClause 32) parts.clauses
+  pub premises : AllByRecursion (λ rule. AllByRecursion (IsPlain 32) (needed_of rule)) parts.rules
+  pub backs : AllByRecursion (λ rule. AllByRecursion (IsPlain 32) rule.backs) parts.rules
+  pub callees : (n : ℕ) → AllByRecursion (λ m. m < length parts.signature.preds * 256 + 1) (callees parts.clauses n)
+  pub places : AllByRecursion (λ n. n < length parts.signature.preds * 256 + 1) (all_places parts.rules)
+
+pub are_fine : TypeLaws → (parts : Parts) → AreInOrder parts → AreFine parts
+are_fine laws parts order =
+    let preds : ℕ = length parts.signature.preds in
+    let fine_all = λ (kinds : List ℕ) (atoms : List AtomTree) (few : length kinds ≤ 32) (typed : AllByRecursion (IsTyped parts.signature kinds) atoms).
+    all_weaker (IsTyped parts.signature kinds) (IsFine preds) atoms (λ a. fine laws parts.signature order.small.signature kinds a few) typed
+    in
+    let plain = λ (atoms : List AtomTree). all_weaker (IsFine preds) (IsPlain 32) atoms (λ a it. it.plain) in
+    let clauses : AllByRecursion (λ (clause : ClauseTree). AllByRecursion (IsFine preds) (clause.head ∷ clause.goals)) parts.clauses = all_from_places _ parts.clauses (λ n clause at.
+    let typed = holds_at (IsTypedClause parts.signature) parts.clauses n clause order.typed_clauses at in
+    fine_all clause.kinds (clause.head ∷ clause.goals) (omega (arith, typed.kinds, (holds_at IsSmallClause parts.clauses n clause order.small.each_clause at).vars)) (typed.head, typed.goals))
+    in
+    let rules : AllByRecursion (λ (rule : Rule). AllByRecursion (IsFine preds) (needed_of rule) × AllByRecursion (IsFine preds) rule.backs) parts.rules = all_from_places _ parts.rules (λ n rule at.
+    let typed = holds_at (IsTypedRule parts.signature) parts.rules n rule order.typed_rules at in
+    let few : length rule.kinds ≤ 32 = omega (arith, typed.kinds, (holds_at IsSmallRule parts.rules n rule order.small.each_rule at).vars) in
+    (fine_all rule.kinds (needed_of rule) few typed.premises, fine_all rule.kinds rule.backs few typed.backs))
+    in
+    record {
+      clauses = all_weaker _ (IsPlainClause 32) parts.clauses (λ clause it. record { head = it.0.plain; goals = plain clause.goals it.1 }) clauses;
+      premises = all_weaker _ _ parts.rules (λ rule it. plain (needed_of rule) it.0) rules;
+      backs = all_weaker _ _ parts.rules (λ rule it. plain rule.backs it.1) rules;
+      callees = callees_low preds parts.clauses clauses;
+      places = all_low preds parts.rules rules;
+    }

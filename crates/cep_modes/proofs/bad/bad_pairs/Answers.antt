@@ -1,9 +1,7 @@
-use Rattle.std.proofs.Common.{◌≡◌, ◌+◌, ◌*◌, ◌∙◌, ℕ, List, Bool, true, length, slice_set, ap, subst, sym, refl, arith, length-set}
+use Rattle.std.proofs.Common.{◌≡◌, ◌+◌, ◌*◌, ◌∙◌, ℕ, List, Bool, true, length, slice_set, ap, refl, arith, length-set}
 use Rattle.cep_modes.specs.Places.{holds, all_places}
-use Rattle.cep_modes.specs.declared.reach.Call.{Call}
-use Rattle.cep_modes.specs.Reaching.{IsClosed}
 use Rattle.cep_modes.specs.Leading.{TellsBad}
-use Rattle.cep_modes.proofs.Numbering.{fine_rules, fine_clauses, plain_clauses, all_low, written}
+use Rattle.cep_modes.proofs.Numbering.{are_fine, written}
 use Rattle.cep_modes.proofs.Deciding.{decided}
 use Rattle.cep_modes.proofs.bad.bad_pairs.Goals as goal
 
@@ -17,11 +15,9 @@ returns c =
     let marked : List Bool = c.spread.new.marked in
     let long : length none ≡ size = ap length c.as_mut_slice-marked.ensures.value ∙ c.in_ok-flags.ensures.long ∙ ap (λ n. n * 256 + 1) c.len.ensures in
     let same : length marked ≡ length none = c.spread.auto.marked ∙ length-set none 0 true in
-    let rules = fine_rules c.types_are_lawful.ensures parts.signature c.requires.small.signature parts.rules c.requires.small.each_rule c.requires.typed_rules in
-    let clauses = fine_clauses c.types_are_lawful.ensures parts.signature c.requires.small.signature parts.clauses c.requires.small.each_clause c.requires.typed_clauses in
-    let Q : List Call → Type 0 = IsClosed parts.clauses size (all_places parts.rules) in
+    let fine = are_fine c.types_are_lawful.ensures parts c.requires in
     let whole : TellsBad parts.clauses (all_places parts.rules) marked =
-    decided parts.clauses size (all_places parts.rules) c.deref.result.now none start marked (plain_clauses preds parts.clauses clauses) (c.bad_pairs_are_those_that_fail.ensures parts.clauses) (subst Q (sym c.deref.ensures.value) c.in_ok-calls.ensures) (omega arith)
-    (λ n. ap (λ flags. holds flags n) c.as_mut_slice-marked.ensures.value ∙ c.in_ok-flags.ensures.none n) refl c.spread.ensures.kept c.spread.ensures.led c.spread.ensures.followed (same ∙ long) (all_low preds parts.rules rules)
+    decided parts.clauses size (all_places parts.rules) c.deref.result.now none start marked fine.clauses (c.bad_pairs_are_those_that_fail.ensures parts.clauses) (rw c.deref.ensures.value c.in_ok-calls.ensures) (omega arith)
+    (λ n. ap (λ flags. holds flags n) c.as_mut_slice-marked.ensures.value ∙ c.in_ok-flags.ensures.none n) refl c.spread.ensures.kept c.spread.ensures.led c.spread.ensures.followed (same ∙ long) fine.places
     in
-    subst (TellsBad parts.clauses (all_places parts.rules)) (sym (written c.in_ok-flags.flags.len marked c.in_ok-flags.flags.items (same ∙ ap length c.as_mut_slice-marked.ensures.value) (omega arith))) whole
+    rw (written c.in_ok-flags.flags.len marked c.in_ok-flags.flags.items (same ∙ ap length c.as_mut_slice-marked.ensures.value) (omega arith)) whole
