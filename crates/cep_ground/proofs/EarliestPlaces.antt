@@ -1,7 +1,10 @@
 -- The order of places in a text, the earliest of some, and the first places of variables.
-use Rattle.std.proofs.Common.{◌≡◌, ◌≢◌, ⊎_elim, ℕ, suc, ◌+◌, ◌-◌, ◌<◌, ◌≤◌, Bool, List, [], ◌∷◌, ◌++◌, length, take, refl, sym, ap, subst, ◌∙◌, arith, append_assoc, length-append, true, false, Contains, ltb, ◌⊎◌, inl, inr, zero, if◌then◌else◌, map}
+use Rattle.std.proofs.lemmas.Bool.{ne_eqb, cases_lt}
+use Rattle.std.proofs.Common.{min}
+use Rattle.cep_base.proofs.Elements.{contains_same}
+use Rattle.std.proofs.Common.{◌≡◌, ◌≢◌, ⊎_elim, ℕ, suc, ◌+◌, ◌-◌, ◌<◌, ◌≤◌, Bool, List, [], ◌∷◌, ◌++◌, length, take, refl, sym, ap, subst, ◌∙◌, arith, append_assoc, length-append, true, false, Contains, ◌⊎◌, inl, inr, zero, if◌then◌else◌, map}
 use Rattle.std.proofs.lemmas.List.Sums.{sum_by-append, sum_by-cons}
-use Rattle.std.proofs.lemmas.Bool.{eqb-false, ltb-true, ltb-false}
+use Rattle.std.proofs.lemmas.Bool.{eqb-false}
 use Rattle.std.specs.Prelude.{◌==◌, sum_by, cond, Option, Some, slice_get}
 use Rattle.cep_base.specs.declared.place.Pos.{Pos}
 use Rattle.cep_base.specs.Spelling.{IsUnbroken}
@@ -21,58 +24,29 @@ use Rattle.cep_ground.proofs.NameLaws.{place, position_there, place_within, same
 
 -- Places further on in a text have a greater line, or the same one and no lesser column.
 
--- a line feed is no part of bytes that none breaks
-break_in : (front : List ℕ) → IsUnbroken (front ++ 10 ∷ []) → ⊥
-break_in [] all = all.0 refl
-break_in (byte ∷ front) all = break_in front all.1
-
-unbroken_front : (one other : List ℕ) → IsUnbroken (one ++ other) → IsUnbroken one
-unbroken_front [] other all = tt
-unbroken_front (byte ∷ one) other all = (all.0, unbroken_front one other all.1)
-
 unbroken_both : (one other : List ℕ) → IsUnbroken one → IsUnbroken other → IsUnbroken (one ++ other)
 unbroken_both [] other here there = there
 unbroken_both (byte ∷ one) other here there = (here.0, unbroken_both one other here.1 there)
 
--- what ends with a line feed ends with one after each front of it
-last_break : (line : List ℕ) (byte : ℕ) (rest front : List ℕ) → line ++ byte ∷ rest ≡ front ++ 10 ∷ [] → IsUnbroken (byte ∷ rest) → ⊥
-last_break [] byte rest front e all = break_in front (subst IsUnbroken e all)
-last_break (a ∷ line) byte rest [] e all = nothing_left line byte rest (let tail : line ++ byte ∷ rest ≡ [] = cc in tail)
-  where
-    nothing_left : (line : List ℕ) (byte : ℕ) (rest : List ℕ) → line ++ byte ∷ rest ≡ [] → ⊥
-    nothing_left [] byte rest e = absurd cc
-    nothing_left (a ∷ line) byte rest e = absurd cc
-last_break (a ∷ line) byte rest (f ∷ front) e all = last_break line byte rest front (let tail : line ++ byte ∷ rest ≡ front ++ 10 ∷ [] = cc in tail) all
+-- the bytes of the last line, which begins with these
+abbrev last_line : List ℕ → List ℕ → List ℕ
+last_line line [] = line
+last_line line (byte ∷ bytes) = last_line (cond (byte == 10) [] (line ++ byte ∷ [])) bytes
+
+unbroken_last : (line bytes : List ℕ) → IsUnbroken bytes → last_line line bytes ≡ line ++ bytes
+unbroken_last line [] all = sym (append-nil line)
+unbroken_last line (byte ∷ bytes) all = rw (ne_eqb byte 10 all.0, unbroken_last (line ++ byte ∷ []) bytes all.1) (append_assoc line (byte ∷ []) bytes)
+
+ended_last : (line front bytes : List ℕ) → last_line line ((front ++ 10 ∷ []) ++ bytes) ≡ last_line [] bytes
+ended_last line [] bytes = refl
+ended_last line (byte ∷ front) bytes = ended_last (cond (byte == 10) [] (line ++ byte ∷ [])) front bytes
+
+last_is : (lines bytes : List ℕ) → IsEnded lines → IsUnbroken bytes → last_line [] (lines ++ bytes) ≡ bytes
+last_is lines bytes ended all = ⊎_elim (λ none. rw none (unbroken_last [] bytes all)) (λ some. rw some.1 (ended_last [] some.0 bytes ∙ unbroken_last [] bytes all)) ended
 
 -- whole lines are cut in one way from the bytes of the last one
-data Cut (lines bytes lines' bytes' : List ℕ) : Type 0 where
-  same : bytes ≡ bytes' → Cut lines bytes lines' bytes'
-  longer : (byte : ℕ) (rest : List ℕ) → lines' ≡ lines ++ byte ∷ rest → bytes ≡ byte ∷ (rest ++ bytes') → Cut lines bytes lines' bytes'
-  shorter : (byte : ℕ) (rest : List ℕ) → lines ≡ lines' ++ byte ∷ rest → bytes' ≡ byte ∷ (rest ++ bytes) → Cut lines bytes lines' bytes'
-
-cut_behind : (a : ℕ) (lines bytes lines' bytes' : List ℕ) → Cut lines bytes lines' bytes' → Cut (a ∷ lines) bytes (a ∷ lines') bytes'
-cut_behind a lines bytes lines' bytes' (same e) = same e
-cut_behind a lines bytes lines' bytes' (longer byte rest e f) = longer byte rest (ap (λ xs. a ∷ xs) e) f
-cut_behind a lines bytes lines' bytes' (shorter byte rest e f) = shorter byte rest (ap (λ xs. a ∷ xs) e) f
-
-cut : (lines bytes lines' bytes' : List ℕ) → lines ++ bytes ≡ lines' ++ bytes' → Cut lines bytes lines' bytes'
-cut [] bytes [] bytes' e = same e
-cut [] bytes (b ∷ lines') bytes' e = longer b lines' refl e
-cut (a ∷ lines) bytes [] bytes' e = shorter a lines refl (sym e)
-cut (a ∷ lines) bytes (b ∷ lines') bytes' e =
-    let first : a ≡ b = cc in
-    let rest : lines ++ bytes ≡ lines' ++ bytes' = cc in
-    subst (λ c. Cut (a ∷ lines) bytes (c ∷ lines') bytes') first (cut_behind a lines bytes lines' bytes' (cut lines bytes lines' bytes' rest))
-
-never_ended : (line : List ℕ) (byte : ℕ) (rest : List ℕ) → IsEnded (line ++ byte ∷ rest) → IsUnbroken (byte ∷ rest) → ⊥
-never_ended line byte rest ended all = ⊎_elim (λ (none : line ++ byte ∷ rest ≡ []). nothing line none) (λ some. last_break line byte rest some.0 some.1 all) ended
-  where
-    nothing : (line : List ℕ) → line ++ byte ∷ rest ≡ [] → ⊥
-    nothing [] e = absurd cc
-    nothing (a ∷ line) e = absurd cc
-
 one_cut : (lines bytes lines' bytes' : List ℕ) → lines ++ bytes ≡ lines' ++ bytes' → IsEnded lines → IsEnded lines' → IsUnbroken bytes → IsUnbroken bytes' → bytes ≡ bytes'
-one_cut lines bytes lines' bytes' e ended ended' all all' = grind (arith, cut, never_ended, unbroken_front)
+one_cut lines bytes lines' bytes' e ended ended' all all' = sym (last_is lines bytes ended all) ∙ ap (last_line []) e ∙ last_is lines' bytes' ended' all'
 
 -- whether a byte is one, as a number
 abbrev one_break : ℕ → ℕ
@@ -120,38 +94,21 @@ places_rise text at at' pos pos' less is is' = later_place (take at text) (take_
 
 -- The earlier of two earliest places is the earliest of both.
 
--- how two numbers compare
-data Lines (a b : ℕ) : Type 0 where
-  below : a < b → Lines a b
-  level : a ≡ b → Lines a b
-  above : b < a → Lines a b
-
-next_lines : (a b : ℕ) → Lines a b → Lines (suc a) (suc b)
-next_lines a b given = grind arith
-
-lines : (a b : ℕ) → Lines a b
-lines (suc a) (suc b) = next_lines a b (lines a b)
-lines a b = grind arith
-
-chain_line : (one other next : Pos) → ¬ (StandsBefore other one) → ¬ (StandsBefore next other) → Lines other.line one.line → next.line < one.line → ⊥
-chain_line one other next no_ no' given less = grind arith
-
-chain_level : (one other next : Pos) → ¬ (StandsBefore other one) → ¬ (StandsBefore next other) → other.line ≡ one.line → Lines other.col one.col → next.line ≡ one.line → next.col < one.col → ⊥
-chain_level one other next no_ no' h given alike less = grind arith
-
-chain_col : (one other next : Pos) → ¬ (StandsBefore other one) → ¬ (StandsBefore next other) → Lines other.line one.line → next.line ≡ one.line → next.col < one.col → ⊥
-chain_col one other next no_ no' given alike less = grind (arith, chain_level, lines)
-
 -- a place that does not stand before one does not stand before an earlier one
 pub chain : (one other next : Pos) → ¬ (StandsBefore other one) → ¬ (StandsBefore next other) → ¬ (StandsBefore next one)
-chain one other next no_ no' before = grind (arith, chain_line, lines, chain_col, next.line, one.line, other.line)
+chain one other next no_ no' before = chained one.line other.line next.line one.col other.col next.col no_ no' before
+  where
+    chained : (l m n a b c : ℕ) → ¬ ((m < l) ⊎ ((m ≡ l) × (b < a))) → ¬ ((n < m) ⊎ ((n ≡ m) × (c < b))) → ¬ ((n < l) ⊎ ((n ≡ l) × (c < a)))
+    chained l m n a b c no_ no' before = grind (arith, cases_lt m l, cases_lt n m, cases_lt b a, cases_lt c b)
 
-same_pos : (one other : Pos) → one.line ≡ other.line → one.col ≡ other.col → one ≡ other
-same_pos one other line col = λ i. record { line = line i; col = col i }
+no_order : (line line' col col' : ℕ) → ¬ ((line < line') ⊎ ((line ≡ line') × (col < col'))) → ¬ ((line' < line) ⊎ ((line' ≡ line) × (col' < col))) → (line ≡ line') × (col ≡ col')
+no_order line line' col col' not_before not_after = grind (arith, cases_lt)
 
 -- places of which neither stands before the other are one
 pub one_place : (one other : Pos) → ¬ (StandsBefore one other) → ¬ (StandsBefore other one) → one ≡ other
-one_place one other no_ no' = grind (arith, lines, same_pos, one.line, other.line, one.col, other.col)
+one_place one other no_ no' =
+    let same = no_order one.line other.line one.col other.col no_ no' in
+    λ i. record { line = same.0 i; col = same.1 i }
 
 -- of two places one does not stand before the other
 not_both : (one other : Pos) → StandsBefore one other → ¬ (StandsBefore other one)
@@ -221,22 +178,20 @@ at_byte text (a ∷ ats) (p ∷ ps) pos are there =
 at_byte text ats ps pos are there = grind (arith, contains_none)
 
 -- the least of some numbers
-record HasLeast (ns : List ℕ) : Type 0 where
-  least : ℕ
-  there : Contains ns least
-  first : (n : ℕ) → Contains ns n → least ≤ n
+abbrev least_of : ℕ → List ℕ → ℕ
+least_of n [] = n
+least_of n (m ∷ ns) = min n (least_of m ns)
 
-least_by : (n : ℕ) (ns : List ℕ) (rest : HasLeast ns) → (b : Bool) → ltb rest.least n ≡ b → HasLeast (n ∷ ns)
-least_by n ns rest true e =
-    let less = ltb-true rest.least n e in
-    record { least = rest.least; there = contains_behind n ns rest.least rest.there; first = λ m there. ⊎_elim (λ (alike : n ≡ m). omega (arith, less, alike)) (λ later. rest.first m later) (contains_cases n ns m there) }
-least_by n ns rest false e =
-    let more_ = ltb-false rest.least n e in
-    record { least = n; there = contains_first n ns; first = λ m there. ⊎_elim (λ (alike : n ≡ m). omega (arith, alike)) (λ later. let l = rest.first m later in omega (arith, l, more_)) (contains_cases n ns m there) }
+least_there : (n : ℕ) (ns : List ℕ) → Contains (n ∷ ns) (least_of n ns)
+least_there n [] = contains_first n []
+least_there n (m ∷ ns) = ⊎_elim
+    (λ (less : n < least_of m ns). contains_same n (m ∷ ns) (min n (least_of m ns)) (omega arith))
+    (λ (less : least_of m ns ≤ n). let e : least_of m ns ≡ min n (least_of m ns) = omega arith in subst (Contains (n ∷ (m ∷ ns))) e (contains_behind n (m ∷ ns) (least_of m ns) (least_there m ns)))
+    (cases_lt n (least_of m ns))
 
-has_least : (n : ℕ) (ns : List ℕ) → HasLeast (n ∷ ns)
-has_least n [] = record { least = n; there = contains_first n []; first = λ m there. ⊎_elim (λ (alike : n ≡ m). omega (arith, alike)) (λ later. absurd (contains_none m later)) (contains_cases n [] m there) }
-has_least n (m ∷ ns) = let rest = has_least m ns in least_by n (m ∷ ns) rest (ltb rest.least n) refl
+least_first : (n : ℕ) (ns : List ℕ) (k : ℕ) → Contains (n ∷ ns) k → least_of n ns ≤ k
+least_first n [] k there = ⊎_elim (λ (same : n ≡ k). omega arith) (λ later. absurd (contains_none k later)) (contains_cases n [] k there)
+least_first n (m ∷ ns) k there = ⊎_elim (λ (same : n ≡ k). omega arith) (λ later. omega (arith, least_first m ns k later)) (contains_cases n (m ∷ ns) k there)
 
 -- The earliest place by lines is the one of the least in bytes.
 pub record IsLeastAt (text : List ℕ) (ats : List ℕ) (pos : Pos) : Type 0 where
@@ -248,17 +203,17 @@ pub record IsLeastAt (text : List ℕ) (ats : List ℕ) (pos : Pos) : Type 0 whe
 pub least_at : (text ats all : List ℕ) → ats ≡ all → (ps : List Pos) → ArePlaces text ats ps → (pos : Pos) → IsEarliest ps (Some pos) → IsLeastAt text ats pos
 least_at text ats [] is ps are pos earliest = grind (arith, at_byte, contains_none, earliest.0)
 least_at text ats (n ∷ ns) is ps are pos earliest =
-    let least = has_least n ns in
-    let there : Contains ats least.least = subst (λ ms. Contains ms least.least) (sym is) least.there in
-    let own = at_pos text ats ps least.least are there in
+    let least : ℕ = least_of n ns in
+    let there : Contains ats least = subst (λ ms. Contains ms least) (sym is) (least_there n ns) in
+    let own = at_pos text ats ps least are there in
     let at = at_byte text ats ps pos are earliest.0 in
-    let before : least.least ≤ at.at = least.first at.at (subst (λ ms. Contains ms at.at) is at.there) in
-    let alike = one_place own.pos pos (earliest.1 own.pos own.there) (places_rise text least.least at.at own.pos pos before own.is at.is) in
+    let before : least ≤ at.at = least_first n ns at.at (subst (λ ms. Contains ms at.at) is at.there) in
+    let alike = one_place own.pos pos (earliest.1 own.pos own.there) (places_rise text least at.at own.pos pos before own.is at.is) in
     record {
-      at = least.least;
+      at = least;
       there = there;
-      least = λ m inside. least.first m (subst (λ ms. Contains ms m) is inside);
-      pos_is = subst (λ q. IsPlaceAfter (take least.least text) q) alike own.is;
+      least = λ m inside. least_first n ns m (subst (λ ms. Contains ms m) is inside);
+      pos_is = subst (λ q. IsPlaceAfter (take least text) q) alike own.is;
     }
 
 -- The places of variables among the first occurrences.

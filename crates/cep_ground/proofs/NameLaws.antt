@@ -1,5 +1,10 @@
 -- The names of a text: each is declared once; they are few, and names of a program.
-use Rattle.std.proofs.Common.{◌≡◌, ◌≢◌, List, [], ◌∷◌, ◌++◌, map, refl, sym, subst, append_assoc, Contains, Bool, true, false, ◌||◌, ◌⊎◌, inl, inr, ⊎_elim, ℕ, zero, suc, ◌+◌, ◌*◌, ◌≤◌, length, filter, arith, length-append, take, drop, ap, ◌∙◌, get_or, ◌<◌, ◌^◌, IsTrue, not, if◌then◌else◌, ◌%◌}
+use Rattle.std.proofs.lemmas.List.Folds.{list_any_at}
+use Rattle.cep_base.proofs.Members.{in_filter, to_contains, from_contains}
+use Rattle.std.proofs.lemmas.Option.{slice_get_cases}
+use Rattle.cep_base.proofs.Bools.{true_false}
+use Rattle.cep_base.proofs.Lists.{all_weaker}
+use Rattle.std.proofs.Common.{◌≡◌, ◌≢◌, List, [], ◌∷◌, ◌++◌, map, refl, sym, subst, append_assoc, Contains, Bool, true, false, ◌||◌, ◌⊎◌, ⊎_elim, ℕ, zero, suc, ◌+◌, ◌*◌, ◌≤◌, length, filter, arith, length-append, ap, ◌∙◌, get_or, ◌<◌, ◌^◌, IsTrue, not, if◌then◌else◌, ◌%◌}
 use Rattle.std.specs.List.{AllByRecursion, find, list_any, AllZip, position, position_or_len, flat_map}
 use Rattle.cep_rule.specs.Names.{AllDiffer, IsName, IsVariableName, IsWord, AreNames}
 use Rattle.cep_source.specs.declared.space.Space.{Space}
@@ -118,6 +123,10 @@ pub found_in : {Y : Type 0} (p : Y → Bool) (ys : List Y) (y : Y) → find p ys
 found_in p [] y found = absurd cc
 found_in p (z ∷ ys) y found = found_first p (p z) z y ys (find p ys) refl found (λ later. found_in p ys y later)
 
+-- something stands at each place within
+pub there_within : {Y : Type 0} (ys : List Y) (n : ℕ) → n < length ys → IsFound (slice_get ys n)
+there_within ys n within = ⊎_elim (λ some. record { it = some.0; found_is = some.2 }) (λ past. absurd (omega arith)) (slice_get_cases ys n).1
+
 -- How many there are at most.
 
 -- where nothing stands at a place, there are not more
@@ -150,30 +159,30 @@ pub all_map : {X Y : Type 0} (P : Y → Type 0) (f : X → Y) (xs : List X) → 
 all_map P f [] all = tt
 all_map P f (x ∷ xs) all = (all.0, all_map P f xs all.1)
 
+pub map_twice : {X Y Z : Type 0} (f : Y → Z) (g : X → Y) (xs : List X) → map f (map g xs) ≡ map (λ x. f (g x)) xs
+map_twice f g [] = refl
+map_twice f g (x ∷ xs) = ap (λ ys. f (g x) ∷ ys) (map_twice f g xs)
+
+pub all_unmap : {X Y : Type 0} (P : Y → Type 0) (f : X → Y) (xs : List X) → AllByRecursion P (map f xs) → AllByRecursion (λ x. P (f x)) xs
+all_unmap P f [] all = tt
+all_unmap P f (x ∷ xs) all = (all.0, all_unmap P f xs all.1)
+
 -- and of all to which one of a list is related
 pub all_zip : {X Y : Type 0} (R : X → Y → Type 0) (P : Y → Type 0) (xs : List X) (ys : List Y) → ((x : X) (y : Y) → Contains xs x → R x y → P y) → AllZip R xs ys → AllByRecursion P ys
 all_zip R P (x ∷ xs) (y ∷ ys) each are = (each x y (contains_first x xs) are.0, all_zip R P xs ys (λ other z there is. each other z (contains_behind x xs other there) is) are.1)
 all_zip R P xs ys each are = grind arith
 
-passes_cond : {X : Type 0} (p : X → Bool) (b : Bool) (x : X) (xs : List X) → p x ≡ b → AllByRecursion (λ y. p y ≡ true) xs → AllByRecursion (λ y. p y ≡ true) (cond b (x ∷ xs) xs)
-passes_cond p b x xs is all = grind arith
+passing_cond : {X : Type 0} (P : X → Type 0) (b : Bool) (x : X) (xs : List X) → (b ≡ true → P x) → AllByRecursion P xs → AllByRecursion P (cond b (x ∷ xs) xs)
+passing_cond P b x xs here all = grind arith
 
--- those that pass a test pass it
-pub all_pass : {X : Type 0} (p : X → Bool) (xs : List X) → AllByRecursion (λ x. p x ≡ true) (filter p xs)
-all_pass p [] = tt
-all_pass p (x ∷ xs) = passes_cond p (p x) x (filter p xs) refl (all_pass p xs)
-
-kept_cond : {X : Type 0} (b : Bool) (y x : X) (xs : List X) → (y ≡ x) ⊎ Contains xs x → (y ≡ x → b ≡ true) → Contains (cond b (y ∷ xs) xs) x
-kept_cond true y x xs there passes = ⊎_elim (λ (same : y ≡ x). subst (Contains (y ∷ xs)) same (contains_first y xs)) (λ later. contains_behind y xs x later) there
-kept_cond false y x xs there passes = ⊎_elim (λ (same : y ≡ x). let e : false ≡ true = passes same in absurd cc) (λ later. later) there
+-- what holds of each that passes a test holds of all that do
+pub all_passing : {X : Type 0} (P Q : X → Type 0) (test : X → Bool) (xs : List X) → ((x : X) → P x → test x ≡ true → Q x) → AllByRecursion P xs → AllByRecursion Q (filter test xs)
+all_passing P Q test [] each all = tt
+all_passing P Q test (x ∷ xs) each all = passing_cond Q (test x) x (filter test xs) (each x all.0) (all_passing P Q test xs each all.1)
 
 -- an element that passes is among those that do
 pub filter_keeps : {X : Type 0} (p : X → Bool) (xs : List X) (x : X) → Contains xs x → p x ≡ true → Contains (filter p xs) x
-filter_keeps p [] x there passes = there
-filter_keeps p (y ∷ xs) x there passes =
-    kept_cond (p y) y x (filter p xs)
-    (⊎_elim (λ same. inl same) (λ later. inr (filter_keeps p xs x later passes)) (contains_cases y xs x there))
-    (λ same. subst (λ z. p z ≡ true) (sym same) passes)
+filter_keeps p xs x there passes = to_contains (filter p xs) x (in_filter p xs x (from_contains xs x there) passes)
 
 -- Names that stand in a text are names of a program, and variables are names of variables.
 
@@ -184,12 +193,7 @@ pub record IsSpelled (text : List ℕ) (token : Token) : Type 0 where
 
 -- a word between what stands before and after it
 word_cut : (before gap word behind : List ℕ) (from to : ℕ) → from ≡ length before + length gap → to ≡ from + length word → slice_of (before ++ (gap ++ (word ++ behind))) from to ≡ word
-word_cut before gap word behind from to from_is to_is =
-    ap (λ n. take n (drop from (before ++ (gap ++ (word ++ behind))))) (omega (arith, to_is))
-    ∙ ap (λ n. take (length word) (drop n (before ++ (gap ++ (word ++ behind))))) (from_is ∙ sym (length-append before gap))
-    ∙ ap (λ bytes. take (length word) (drop (length (before ++ gap)) bytes)) (sym (append_assoc before gap (word ++ behind)))
-    ∙ ap (take (length word)) (drop-append_seam (before ++ gap) (word ++ behind))
-    ∙ take-append_seam word behind
+word_cut before gap word behind from to from_is to_is = grind (arith, length-append before gap, append_assoc before gap (word ++ behind), drop-append_seam (before ++ gap) (word ++ behind), take-append_seam word behind)
 
 -- tokens from a place on
 all_spelled : (text before bytes : List ℕ) (at : ℕ) (tokens : List Token) (rest : List ℕ) → text ≡ before ++ bytes → at ≡ length before → Cuts at bytes tokens rest → AllByRecursion (IsSpelled text) tokens
@@ -275,28 +279,7 @@ apart_by_slash one other same yes_ no_ = let e : true ≡ false = sym yes_ ∙ a
 pub qui_name : (k : ℕ) → k + 1 < 2 ^ 63 → IsName (codes "qui/" ++ decimal (k + 1))
 qui_name k few = record {
   word = (refl, (refl, (refl, (refl, digits_go_on (decimal (k + 1)) (decimal_is_IsNumeral (k + 1) (omega arith)).0.1))));
-  free = (
-    (λ e. apart_by_slash (codes "qui/" ++ decimal (k + 1)) (codes "type") e refl refl),
-    (
-      (λ e. apart_by_slash (codes "qui/" ++ decimal (k + 1)) (codes "pred") e refl refl),
-      (
-        (λ e. apart_by_slash (codes "qui/" ++ decimal (k + 1)) (codes "bwd") e refl refl),
-        (
-          (λ e. apart_by_slash (codes "qui/" ++ decimal (k + 1)) (codes "fact") e refl refl),
-          (
-            (λ e. apart_by_slash (codes "qui/" ++ decimal (k + 1)) (codes "stage") e refl refl),
-            (
-              (λ e. apart_by_slash (codes "qui/" ++ decimal (k + 1)) (codes "context") e refl refl),
-              (
-                (λ e. apart_by_slash (codes "qui/" ++ decimal (k + 1)) (codes "qui") e refl refl),
-                tt,
-              ),
-            ),
-          ),
-        ),
-      ),
-    ),
-  );
+  free = all_weaker (λ word. has_slash word ≡ false) (λ word. codes "qui/" ++ decimal (k + 1) ≢ word) (codes "type" ∷ codes "pred" ∷ codes "bwd" ∷ codes "fact" ∷ codes "stage" ∷ codes "context" ∷ codes "qui" ∷ []) (λ word no_ same. apart_by_slash (codes "qui/" ++ decimal (k + 1)) word same refl no_) (refl, (refl, (refl, (refl, (refl, (refl, (refl, tt)))))));
   short = let size = length-decimal-le 20 (k + 1) (omega arith) (omega arith) (omega arith) in omega (arith, size);
 }
 
@@ -342,10 +325,6 @@ module _ (source : Source) (clean : IsClean source) (items : AllByRecursion (IsI
   pub rules_few : length (rules_of source) ≤ 4096
   rules_few = at_most (rules_of source) 4096 (λ rule found. clean.names (wrong OverLimit rule.raw.at) (over rule.raw.at (overs.rule rule found refl) refl))
 
-  map_twice : {X Y Z : Type 0} (f : Y → Z) (g : X → Y) (xs : List X) → map f (map g xs) ≡ map (λ x. f (g x)) xs
-  map_twice f g [] = refl
-  map_twice f g (x ∷ xs) = ap (λ ys. f (g x) ∷ ys) (map_twice f g xs)
-
   differ_as : (space_ : Space) (names : List (List ℕ)) → map (λ (n : Named). n.name) (names_in source space_) ≡ names → AllDiffer names
   differ_as space_ names same = subst AllDiffer same (names_differ source clean.names space_)
 
@@ -385,18 +364,20 @@ module _ (source : Source) (clean : IsClean source) (items : AllByRecursion (IsI
 abbrev pub AreNamesClean : Source → Type 0
 AreNamesClean source = (fault : Fault) → ¬ (Misnamed source fault)
 
--- a name that is used is in its space, since else no space would have it
-nowhere : (source : Source) (space other : Space) (name : Span) → AreNamesClean source → Contains (uses_in source space) name → is_in source space (said source name) ≡ false → (there : Bool) → is_in source other (said source name) ≡ there → there ≡ false
-nowhere source space other name clean used outside true is = absurd (clean (wrong WrongKind name.from) (wrong_kind space other name used outside is refl))
-nowhere source space other name clean used outside false is = refl
+-- what is not otherwise is so
+pub not_otherwise : (b : Bool) → (b ≡ false → ⊥) → b ≡ true
+not_otherwise b never = grind arith
 
-known_by : (source : Source) (space : Space) (name : Span) → AreNamesClean source → Contains (uses_in source space) name → (there : Bool) → is_in source space (said source name) ≡ there → there ≡ true
-known_by source space name clean used true is = refl
-known_by source space name clean used false is =
-    absurd (clean (wrong Unknown name.from) (unknown space name used (λ other. nowhere source space other name clean used is (is_in source other (said source name)) refl) refl))
+not_other : (b : Bool) → (b ≡ true → ⊥) → b ≡ false
+not_other b never = grind arith
 
+pub same_number : (n m : ℕ) → ((n ≢ m) → ⊥) → n ≡ m
+same_number n m never = grind (arith, eqb-true, eqb-false)
+
+-- a name that is used is in its space, since else no space would have it, or another
 pub known : (source : Source) (space : Space) (name : Span) → AreNamesClean source → Contains (uses_in source space) name → is_in source space (said source name) ≡ true
-known source space name clean used = known_by source space name clean used (is_in source space (said source name)) refl
+known source space name clean used = not_otherwise _ (λ outside. clean (wrong Unknown name.from) (unknown space name used (λ other.
+    not_other _ (λ there. clean (wrong WrongKind name.from) (wrong_kind space other name used outside there refl))) refl))
 
 -- the atoms of a rule, and of a clause, are atoms of the file
 pub needed_here : (source : Source) (rule : RuleItem) (raw : RawAtom) → Contains (rules_of source) rule → Contains (atoms_of rule.raw.left) raw → Contains (atoms_written source) raw
@@ -427,11 +408,7 @@ pub pred_known : (source : Source) (raw : RawAtom) → AreNamesClean source → 
 pred_known source raw clean there =
     let used = contains_map (λ (atom : RawAtom). atom.name) (atoms_written source) raw there in
     let found = any_found (λ (pred : PredItem). named source pred.name) (λ other. bytes_eq other.name (said source raw.name)) (preds_of source) (known source space.Predicates raw.name clean used) in
-    record { pred = found.it; found = found.found_is; count = counted found.it found.found_is (raw.args == length found.it.args) refl }
-  where
-    counted : (pred : PredItem) → pred_named source (said source raw.name) ≡ Some pred → (same : Bool) → (raw.args == length pred.args) ≡ same → raw.args ≡ length pred.args
-    counted pred found true same = eqb-true raw.args (length pred.args) same
-    counted pred found false same = absurd (clean (wrong WrongArity raw.name.from) (wrong_arity raw pred there found (eqb-false raw.args (length pred.args) same) refl))
+    record { pred = found.it; found = found.found_is; count = same_number _ _ (λ differ. clean (wrong WrongArity raw.name.from) (wrong_arity raw found.it there found.found_is differ refl)) }
 
 -- The constructor of a node is declared, with as many arguments.
 pub record IsConKnown (source : Source) (at : Span) (args : ℕ) : Type 0 where
@@ -444,11 +421,7 @@ con_known source raw node clean there inside app =
     let written = contains_flat (λ (atom : RawAtom). atom.nodes) (atoms_written source) raw node there inside in
     let used = contains_flat (λ (one : RawNode). applied_at one.kind one.at) (raw_nodes (atoms_written source)) node node.at written (subst (λ shape. Contains (applied_at shape node.at) node.at) (sym app) (contains_first node.at [])) in
     let found = any_found (λ (con : ConItem). named source con.name) (λ other. bytes_eq other.name (said source node.at)) (cons_of source) (known source space.Constructors node.at clean used) in
-    record { con = found.it; found = found.found_is; count = counted written found.it found.found_is (node.args == length found.it.args) refl }
-  where
-    counted : Contains (raw_nodes (atoms_written source)) node → (con : ConItem) → con_named source (said source node.at) ≡ Some con → (same : Bool) → (node.args == length con.args) ≡ same → node.args ≡ length con.args
-    counted written con found true same = eqb-true node.args (length con.args) same
-    counted written con found false same = absurd (clean (wrong WrongArity node.at.from) (wrong_term_arity node con written app found (eqb-false node.args (length con.args) same) refl))
+    record { con = found.it; found = found.found_is; count = same_number _ _ (λ differ. clean (wrong WrongArity node.at.from) (wrong_term_arity node found.it written app found.found_is differ refl)) }
 
 -- The variables of atoms and the types that are wanted of them.
 
@@ -488,6 +461,9 @@ same_bytes xs ys e = (bytes_eq-Decides xs ys).0 e
 pub bytes_same : (xs : List ℕ) → bytes_eq xs xs ≡ true
 bytes_same xs = (bytes_eq-Decides xs xs).1 refl
 
+pub same_unless : (xs ys : List ℕ) → ((xs ≡ ys → ⊥) → ⊥) → xs ≡ ys
+same_unless xs ys never = same_bytes xs ys (not_otherwise _ (λ differ. never (λ same. true_false _ (rw same (bytes_same ys)) differ)))
+
 -- a name is among names, by test and by place
 pub any_is : (names : List (List ℕ)) (name : List ℕ) → list_any (λ other. bytes_eq other name) names ≡ true → Contains names name
 any_is [] name any = absurd cc
@@ -498,15 +474,7 @@ any_is (other ∷ names) name any = by_test (bytes_eq other name) refl any (λ l
     by_test false e any rest = contains_behind other names name (rest any)
 
 pub is_any : (names : List (List ℕ)) (name : List ℕ) → Contains names name → list_any (λ other. bytes_eq other name) names ≡ true
-is_any [] name there = absurd (contains_none name there)
-is_any (other ∷ names) name there = ⊎_elim (λ (same : other ≡ name). here (bytes_eq other name) (subst (λ n. bytes_eq other n ≡ true) same (bytes_same other))) (λ later. behind (bytes_eq other name) (is_any names name later)) (contains_cases other names name there)
-  where
-    here : (b : Bool) → b ≡ true → (b || list_any (λ other. bytes_eq other name) names) ≡ true
-    here b e = grind arith
-
-    behind : (b : Bool) → list_any (λ other. bytes_eq other name) names ≡ true → (b || list_any (λ other. bytes_eq other name) names) ≡ true
-    behind true h = refl
-    behind false h = h
+is_any names name there = grind (arith, list_any_at, bytes_eq-Decides)
 
 -- a name that occurs was seen before, or occurs first somewhere
 first_by : (b : Bool) (seen : List (List ℕ)) (o : Occurrence) (occurrences : List Occurrence) (name : List ℕ)
@@ -702,20 +670,16 @@ module _ (source : Source) (clean : IsClean source) where
       let each = λ (one : RuleItem). stages_named one.raw.left ++ stages_named one.raw.right in
       contains_left (flat_map each (rules_of source)) _ span (contains_flat each (rules_of source) rule span there inside)
 
-  -- by not being otherwise
-  is_one : (n : ℕ) → ((n ≡ 1 → ⊥) → ⊥) → n ≡ 1
-  is_one n never = grind (arith, eqb-true, eqb-false)
-
   left_stage : (rule : RuleItem) → Contains (rules_of source) rule → rule.home ≡ None → stage_named source rule.raw.left < length (stages_of source)
   left_stage rule there none =
       side_stage (stages_named rule.raw.left)
-      (is_one _ (λ (no_ : length (stages_named rule.raw.left) ≡ 1 → ⊥). clean.names (wrong BadQui rule.raw.at) (bad_qui rule there none (λ (qui : IsQuiRule rule.raw). no_ qui.from) refl)))
+      (same_number _ 1 (λ (no_ : length (stages_named rule.raw.left) ≡ 1 → ⊥). clean.names (wrong BadQui rule.raw.at) (bad_qui rule there none (λ (qui : IsQuiRule rule.raw). no_ qui.from) refl)))
       (λ span inside. sides_used rule span there (contains_left (stages_named rule.raw.left) _ span inside))
 
   right_stage : (rule : RuleItem) → Contains (rules_of source) rule → rule.home ≡ None → stage_named source rule.raw.right < length (stages_of source)
   right_stage rule there none =
       side_stage (stages_named rule.raw.right)
-      (is_one _ (λ (no_ : length (stages_named rule.raw.right) ≡ 1 → ⊥). clean.names (wrong BadQui rule.raw.at) (bad_qui rule there none (λ (qui : IsQuiRule rule.raw). no_ qui.to) refl)))
+      (same_number _ 1 (λ (no_ : length (stages_named rule.raw.right) ≡ 1 → ⊥). clean.names (wrong BadQui rule.raw.at) (bad_qui rule there none (λ (qui : IsQuiRule rule.raw). no_ qui.to) refl)))
       (λ span inside. sides_used rule span there (contains_right (stages_named rule.raw.left) _ span inside))
 
   even_group : (k : ℕ) → (2 * k) % 2 ≡ 0

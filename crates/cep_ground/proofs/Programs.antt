@@ -1,71 +1,70 @@
 -- What a text in order declares is a program, and its start state is one that fits.
-use Rattle.std.proofs.Common.{◌≡◌, ⊎_elim, ℕ, ◌+◌, ◌<◌, ◌≤◌, Bool, true, false, ◌&&◌, if◌then◌else◌, nat_lt, List, [], ◌∷◌, length, refl, sym, ap, subst, ◌∙◌, arith, Contains, ◌^◌, not, nat_le, ◌++◌, map, filter, length-append, suc, zero, ◌||◌, append_assoc}
-use Rattle.std.proofs.lemmas.List.Sums.{sum_by-cons}
-use Rattle.std.proofs.lemmas.List.{append-nil, length-map}
-use Rattle.std.specs.Prelude.{sum_by, IsSomeAnd, Option, Some, None, IfSome, codes, decimal}
-use Rattle.std.specs.declared.cmp.Ordering.{Ordering}
-use Rattle.std.specs.List.{AllByRecursion, list_any, flat_map, AllZip}
-use Rattle.std.proofs.lemmas.Bool.{ltb-true, lt-ltb, leb-true}
-use Rattle.cep_term.specs.Order.{atom_cmp}
+use Rattle.std.proofs.Common.{◌≡◌, ⊎_elim, ◌<◌, ◌≤◌, ◌^◌, Bool, true, false, not, List, length, refl, sym, ap, subst, ◌∙◌, arith, Contains, length-append, ℕ, suc, ◌+◌, [], ◌∷◌, ◌++◌, map, filter, append_assoc, ◌||◌, ◌&&◌, if◌then◌else◌, nat_lt, nat_le, zero}
+use Rattle.std.proofs.lemmas.List.{length-map, append-nil}
+use Rattle.std.specs.Prelude.{Option, Some, codes, decimal, sum_by, IsSomeAnd, None, IfSome}
+use Rattle.std.specs.Option.{option_and_then}
+use Rattle.cep_base.specs.Kinds.{is_backward}
+use Rattle.cep_parse.specs.declared.raw.RawKind.{RawKind}
+use Rattle.cep_parse.specs.declared.raw.Span.{Span}
 use Rattle.cep_parse.specs.declared.raw.RawNode.{RawNode}
 use Rattle.cep_parse.specs.declared.raw.RawAtom.{RawAtom}
-use Rattle.cep_base.specs.Kinds.{is_backward}
-use Rattle.cep_term.specs.Tree.{AtomTree, IsGroundAtom, atom_nodes, IsFit, Trees, variable, node, none, more}
+use Rattle.cep_parse.specs.Written.{IsItemOf, Fill, IsCount}
+use Rattle.cep_rule.specs.Names.{IsVariableName, AreNames}
+use Rattle.cep_refusal.specs.declared.reason.Reason.TheVariants.{OverLimit, NoTrace}
+use Rattle.cep_source.specs.Items.{Source, RuleItem, ClauseItem, PredItem, said, rules_of, clauses_of, ConItem, sorts_of, cons_of, preds_of, TraceItem, traces_of, declares, stages_of, interactives_of}
+use Rattle.cep_source.specs.Spaces.{Named, names_in, rule_names_from, unlabelled_behind}
+use Rattle.cep_parse.specs.Raw.{atoms_of, raw_nodes}
+use Rattle.cep_source.specs.Uses.{made_atoms, state_atoms, stages_named}
+use Rattle.cep_refusal.specs.First.{wrong}
+use Rattle.cep_faults.specs.Misnamed.Misnamed.{over, no_trace}
+use Rattle.cep_faults.specs.Limits.{IsOver as overs}
+use Rattle.cep_types.specs.Sites.{rule_scope, clause_scope, IsScope as scopes}
+use Rattle.cep_ground.specs.Texts.{IsClean, IsBound}
+use Rattle.cep_base.proofs.Elements.{contains_map, all_at, contains_none, contains_first, contains_behind, contains_cases, contains_left, contains_right, all_of}
+use Rattle.cep_ground.proofs.NameLaws.{all_unmap, at_most, nodes_few, all_map, tokens_few, all_filter, map_twice, state_atom_here, all_zip, rules_few, sort_names, stage_names, con_names, pred_names, rule_names, used_stage, rule_grouped, rule_next}
+use Rattle.cep_ground.proofs.Scopes.{IsHere, typed_atoms, atom_alike, raw_depth, not_greater}
+use Rattle.std.specs.List.{AllByRecursion, flat_map, list_any, AllZip}
+use Rattle.cep_source.specs.Variables.{Occurrence, blanks_behind, occurrences_from, variables_of, blanks_after}
+use Rattle.cep_types.specs.Heads.{number_of, variable_of, head_at, heads_from, sorts_said, Head}
+use Rattle.cep_infer.specs.Meaning.{names_of, kinds_of, is_back, ArePremisesBy, IsRuleBy, IsClauseBy, pred_by, is_fact_by, signature_of, IsStartBy, con_by, stage_by, AreParts, group_of, next_of}
+use Rattle.cep_parse.specs.declared.raw.RawElem.{RawElem}
+use Rattle.cep_term.specs.Tree.{AtomTree, atom_nodes, IsGroundAtom, IsFit, Tree, Trees}
+use Rattle.cep_rule.specs.declared.rule.Rule.{Rule}
+use Rattle.cep_rule.specs.Patterns.{PremiseTree, ClauseTree}
+use Rattle.cep_rule.specs.Binding.{IsBoundRule, IsBoundClause}
+use Rattle.cep_infer.specs.Heads.{IsAtomBy, AreAtomsBy, argument_count, heads_of, heads_among}
+use Rattle.cep_infer.specs.Places.{unbound_of, backs_at}
+use Rattle.cep_ground.proofs.OneAnswer.{fact_by, alike_atoms}
+use Rattle.cep_rule.specs.Typing.{IsTyped, HasStatePredicate}
+use Rattle.cep_rule.specs.Program.{IsTypedRule, IsDividedRule, IsTypedClause, IsDividedClause, AreSorts, AreNumbersDeclared, IsGroupedRule, IsProgram}
+use Rattle.cep_source.specs.Starts.{is_of_fact, start_atoms, nodes_written, IsFitWritten, is_written_alike, counting_behind, counting, turns_said}
+pub use Rattle.cep_base.proofs.Lists.{all_weaker as all_follow}
+use Rattle.std.proofs.lemmas.List.Sums.{sum_by-cons}
+use Rattle.std.specs.declared.cmp.Ordering.{Ordering}
+use Rattle.std.proofs.lemmas.Bool.{ltb-true, lt-ltb, leb-true}
+use Rattle.cep_term.specs.Order.{atom_cmp}
 use Rattle.cep_term.specs.BagLaws.{BagLaws}
 use Rattle.cep_term.specs.Multiset.{Multiset, count_of, with_one, gathered, held, gained, once}
 use Rattle.cep_rule.specs.declared.signature.PredDecl.{PredDecl}
-use Rattle.cep_rule.specs.Typing.{IsTyped, HasStatePredicate}
 use Rattle.cep_rule.specs.State.{IsStateAtom, IsState, Fits}
-use Rattle.cep_refusal.specs.declared.reason.Reason.TheVariants.{OverLimit, NoTrace}
-use Rattle.cep_source.specs.Items.{Source, TraceItem, traces_of, PredItem, ConItem, ClauseItem, RuleItem, declares, said, sorts_of, preds_of, cons_of, stages_of, interactives_of, clauses_of, rules_of}
-use Rattle.cep_source.specs.Uses.{made_atoms, state_atoms, stages_named}
-use Rattle.cep_source.specs.Variables.{occurrences_from, blanks_behind, blanks_after, Occurrence, variables_of}
-use Rattle.cep_source.specs.Starts.{start_atoms, nodes_written, IsFitWritten, is_of_fact, is_written_alike, counting_behind, counting, turns_said}
-use Rattle.cep_refusal.specs.First.{wrong}
-use Rattle.cep_faults.specs.Misnamed.Misnamed.{over, no_trace}
-use Rattle.cep_faults.specs.Limits.IsOver.{unfit, copies, nodes}
-use Rattle.cep_types.specs.Sites.{IsScope as scopes, rule_scope, clause_scope}
-use Rattle.cep_infer.specs.Heads.{IsAtomBy, AreAtomsBy, argument_count, heads_of, heads_among}
-use Rattle.cep_infer.specs.Meaning.{signature_of, names_of, kinds_of, is_fact_by, IsStartBy, con_by, pred_by, stage_by, is_back, IsRuleBy, IsClauseBy, AreParts, ArePremisesBy, group_of, next_of}
 use Rattle.cep_infer.specs.Resolved.{IsWellNamed}
 use Rattle.cep_infer.specs.States.{AreClosed}
-use Rattle.cep_ground.specs.Texts.{IsClean, IsBound}
-use Rattle.cep_base.proofs.Elements.{contains_none, contains_first, contains_behind, contains_cases, contains_right, all_at, contains_left, contains_map, all_of}
-use Rattle.cep_ground.proofs.NameLaws.{state_atom_here, at_most, nodes_few, all_filter, all_map, all_zip, tokens_few, rules_few, sort_names, stage_names, con_names, pred_names, rule_names, used_stage, rule_grouped, rule_next}
-use Rattle.cep_ground.proofs.OneAnswer.{fact_by, alike_atoms}
-use Rattle.cep_ground.proofs.Scopes.{IsHere, typed_atoms}
-use Rattle.cep_ground.proofs.RuleParts.{AtomsMade, AreHere, here_at, words, short, rule_here, clause_here, left_here, right_here, linear_few, back_few, right_few, goals_few, nodes_short, in_range, con_sort_known, con_args_known, pred_args_known, kinds_in_range, variable_names, atom_size, pred_at, is_of_state, fact_at, IsJudged, judged_premises, judged_atoms, back_part, linear_count, back_count, atoms_count, all_follow, rule_typed, rule_divided, clause_typed, clause_divided, bound_vars, rule_bound, clause_bound, atom_of_tokens}
-use Rattle.cep_ground.proofs.StateAtoms.{atom_alike, raw_depth, not_greater}
-use Rattle.std.specs.Option.{option_and_then}
 use Rattle.std.proofs.lemmas.Slice.Zip.{AllZip-long}
-use Rattle.cep_parse.specs.declared.raw.Span.{Span}
 use Rattle.cep_parse.specs.declared.raw.RawItem.{RawItem}
-use Rattle.cep_parse.specs.Written.{IsItemOf, Fill, IsCount}
 use Rattle.cep_rule.specs.declared.signature.Con.{Con}
 use Rattle.cep_rule.specs.declared.signature.Signature.{Signature}
-use Rattle.cep_rule.specs.declared.rule.Rule.{Rule}
 use Rattle.cep_rule.specs.declared.parts.Stage.{Stage}
 use Rattle.cep_rule.specs.declared.parts.Parts.{Parts}
-use Rattle.cep_rule.specs.Patterns.{PremiseTree, ClauseTree}
-use Rattle.cep_rule.specs.Names.{AreNames, IsVariableName}
-use Rattle.cep_rule.specs.Binding.{IsBoundRule, IsBoundClause}
 use Rattle.cep_rule.specs.Limits.{IsSmallPattern, IsSmallSignature, IsSmallRule, IsSmallClause}
 use Rattle.cep_base.specs.Bounds.{IsTurnLimit}
 use Rattle.cep_base.specs.declared.limits.TheConstants.{MOST_TURNS}
 use Rattle.cep_rule.specs.Groundness.{IsGrounded}
 use Rattle.cep_modes.specs.Grounding.{AreInOrder}
-use Rattle.cep_rule.specs.Program.{AreSorts, AreNumbersDeclared, IsTypedRule, IsTypedClause, IsDividedRule, IsDividedClause, IsGroupedRule, IsProgram}
-use Rattle.cep_parse.specs.Raw.{atoms_of, raw_nodes}
-use Rattle.cep_faults.specs.Limits.{IsOver as overs}
-use Rattle.cep_types.specs.Heads.{number_of, sorts_said, Head, var, con, variable_of, head_at, heads_from}
-use Rattle.cep_infer.specs.Places.{backs_at, unbound_of}
-use Rattle.cep_parse.specs.declared.raw.RawKind.{RawKind}
-use Rattle.cep_parse.specs.declared.raw.RawElem.{RawElem}
-use Rattle.cep_source.specs.Spaces.{Named, names_in, rule_names_from, unlabelled_behind}
-use Rattle.std.specs.FinMap as finite
-use Rattle.cep_source.specs.declared.space.Space.TheVariants as space
 use Rattle.cep_parse.specs.declared.raw.RawKind.TheVariants as kind
+use Rattle.cep_source.specs.declared.space.Space.TheVariants as space
 use Rattle.cep_parse.specs.declared.raw.RawElem.TheVariants as elem
+use Rattle.std.specs.FinMap as finite
+use Rattle.cep_ground.proofs.RuleParts.{AtomsMade, may_be_state, may_be_backward, atom_of_tokens, here_at, nodes_short, AreHere, words, short, left_here, right_here, linear_few, back_few, right_few, goals_few, rule_here, clause_here, in_range, con_sort_known, con_args_known, pred_args_known, kinds_in_range, variable_names, premise_atoms, bound_vars, rule_bound, clause_bound, atom_size, each_atom, pred_at, IsJudged, judged_atoms, part_all, premise_count, atoms_count, is_of_state, rule_typed, rule_divided, clause_typed, clause_divided}
 
 -- The start state of a text is a state that fits.
 
@@ -114,7 +113,7 @@ module _ (source : Source) (clean : IsClean source) (made : AtomsMade source) (s
 
   listed_fit : (raw : RawAtom) (blanks : ℕ) (atom : AtomTree) (listed : Contains (state_atoms source) raw) → IsAtomBy source [] blanks raw atom → IsFit atom
   listed_fit raw blanks atom listed by =
-      let fits : (¬ IsFitWritten raw) → ⊥ = λ not_fit. clean.names (wrong OverLimit raw.name.from) (over raw.name.from (unfit raw listed not_fit refl) refl) in
+      let fits : (¬ IsFitWritten raw) → ⊥ = λ not_fit. clean.names (wrong OverLimit raw.name.from) (over raw.name.from (overs.unfit raw listed not_fit refl) refl) in
       let deep = raw_depth source [] blanks raw atom by (listed_closed raw listed) in
       record {
         nodes = not_greater _ _ (λ more_. fits (λ fit. let n = fit.nodes in omega (arith, n, (atom_size source [] blanks raw atom by), more_)));
@@ -125,13 +124,11 @@ module _ (source : Source) (clean : IsClean source) (made : AtomsMade source) (s
   listed_state_atom raw blanks atom listed by = grind (arith, listed_closed raw listed, listed_typed raw blanks atom listed by, listed_of_state raw blanks atom listed by, listed_fit raw blanks atom listed by, starts.ground)
 
   pub listed_state_atoms : (raws : List RawAtom) (blanks : ℕ) (list : List AtomTree) → ((raw : RawAtom) → Contains raws raw → Contains (state_atoms source) raw) → AreAtomsBy source [] blanks raws list → AllByRecursion (IsStateAtom (signature_of source)) list
-  listed_state_atoms (raw ∷ raws) blanks (atom ∷ list) all by =
-      (listed_state_atom raw blanks atom (all raw (contains_first raw raws)) by.0, listed_state_atoms raws (blanks_after blanks raw.nodes) list (λ other there. all other (contains_behind raw raws other there)) by.1)
-  listed_state_atoms raws blanks list all by = grind arith
+  listed_state_atoms raws blanks list all by = each_atom source [] (IsStateAtom (signature_of source)) blanks raws list (λ raw more_ atom there is. listed_state_atom raw more_ atom (all raw there) is) by
 
   -- an atom of a state is a fact where it is written as one
   fact_written : (raw : RawAtom) (blanks : ℕ) (atom : AtomTree) (listed : Contains (state_atoms source) raw) → IsAtomBy source [] blanks raw atom → is_fact_by source atom ≡ is_of_fact source raw
-  fact_written raw blanks atom listed by = fact_at source clean made [] blanks raw atom (listed_here raw listed) by
+  fact_written raw blanks atom listed by = (pred_at source clean made [] blanks raw atom (listed_here raw listed) by).fact_is
 
   module _ (laws : BagLaws) where
     -- what is there stays there
@@ -195,8 +192,8 @@ start_good source clean made starts laws trace rest start_ first by =
     let none = λ (raw : RawAtom) (blanks : ℕ) (atom : AtomTree) (listed : Contains (state_atoms source) raw) (is : IsAtomBy source [] blanks raw atom) (never : ◌≡◌ {A = Bool} false true). absurd cc in
     let ones = gains_less source clean made starts laws (λ _. 1) (λ _. 1) raws 0 by.atoms [] finite.empty written (λ raw more_ atom listed is. omega arith) by.atoms_are none in
     let sizes = gains_less source clean made starts laws atom_nodes nodes_written raws 0 by.atoms [] finite.empty written (λ raw more_ atom listed is. let size = atom_size source [] more_ raw atom is in omega (arith, size)) by.atoms_are none in
-    let few_copies : length (counting source raws) ≤ 100000 = not_greater _ _ (λ more_. clean.names (wrong OverLimit trace.at) (over trace.at (copies trace rest first more_ refl) refl)) in
-    let few_nodes : sum_by nodes_written (counting source raws) ≤ 4194304 = not_greater _ _ (λ more_. clean.names (wrong OverLimit trace.at) (over trace.at (nodes trace rest first more_ refl) refl)) in
+    let few_copies : length (counting source raws) ≤ 100000 = not_greater _ _ (λ more_. clean.names (wrong OverLimit trace.at) (over trace.at (overs.copies trace rest first more_ refl) refl)) in
+    let few_nodes : sum_by nodes_written (counting source raws) ≤ 4194304 = not_greater _ _ (λ more_. clean.names (wrong OverLimit trace.at) (over trace.at (overs.nodes trace rest first more_ refl) refl)) in
     subst (IsGoodStart source) (sym (by.start_is ∙ laws.once_gathered test by.atoms ground))
     (record {
       state = record {
@@ -219,10 +216,6 @@ start_good source clean made starts laws trace rest start_ first by =
     at_most_one false n count is held_ = absurd cc
 
 -- What a text in order declares is a program.
-
-map_same : {X Y Z : Type 0} (f : Y → Z) (g : X → Y) (h : X → Z) (xs : List X) → ((x : X) → f (g x) ≡ h x) → map h xs ≡ map f (map g xs)
-map_same f g h [] same = refl
-map_same f g h (x ∷ xs) same = let here = same x in let rest = map_same f g h xs same in cc
 
 -- a number of turns that is said is one that a program may ask for
 turns_few : (digits : Bool) (turns : ℕ) → IfSome (let said : Option ℕ = if digits && (nat_le 1 turns && nat_le turns MOST_TURNS) then Some turns else None in said) IsTurnLimit
@@ -262,15 +255,13 @@ module _ (source : Source) (clean : IsClean source) (made : AtomsMade source) (i
       let most = at_most (variables_of source (clause_scope item_)) 32 (λ o found. clean.names (wrong OverLimit o.at.from) (over o.at.from (overs.clause_variable item_ o there found refl) refl)) in
       omega (arith, (length-map (variables_of source (clause_scope item_)) (λ (o : Occurrence). o.name)), most)
 
-  small_atom : (atom : AtomTree) → IsJudged source clean made atom → IsSmallPattern atom
-  small_atom atom judged = judged.small
-
   small_rule : (item_ : RuleItem) (rule : Rule) → Contains (rules_of source) item_ → IsRuleBy source item_ rule → IsSmallRule rule
   small_rule item_ rule there by =
-      let judged = judged_premises source clean made rule.vars 0 item_.raw.left by.left (left_here source clean made item_ there) by.left_is in
-      let small = all_follow (λ (p : PremiseTree). IsJudged source clean made p.atom) (λ p. IsSmallPattern p.atom) by.left (λ p j. small_atom p.atom j) judged in
-      let linear = linear_count source clean made rule.vars 0 item_.raw.left by.left (left_here source clean made item_ there) by.left_is in
-      let back = back_count source clean made rule.vars 0 item_.raw.left by.left (left_here source clean made item_ there) by.left_is in
+      let left = premise_atoms source rule.vars 0 item_.raw.left by.left by.left_is in
+      let here = left_here source clean made item_ there in
+      let small = all_follow (IsJudged source clean made) IsSmallPattern (map (λ p. p.atom) by.left) (λ atom j. j.small) (judged_atoms source clean made rule.vars 0 (atoms_of item_.raw.left) (map (λ p. p.atom) by.left) here left) in
+      let linear = premise_count source clean made not may_be_state rule.vars 0 item_.raw.left by.left (λ its. refl) here by.left_is in
+      let back = premise_count source clean made (λ b. b) may_be_backward rule.vars 0 item_.raw.left by.left (λ its. refl) here by.left_is in
       let right = atoms_count source clean made rule.vars _ (atoms_of item_.raw.right) rule.right by.right_is in
       let right_judged = judged_atoms source clean made rule.vars _ (atoms_of item_.raw.right) rule.right (right_here source clean made item_ there) by.right_is in
       record {
@@ -278,9 +269,9 @@ module _ (source : Source) (clean : IsClean source) (made : AtomsMade source) (i
         premises = let e = ap length by.premises_are in let most = linear_few source clean made item_ there in omega (arith, e, linear, most);
         backs = let e = ap length by.backs_are ∙ length-map (filter (λ (p : PremiseTree). is_back source p.atom) by.left) (λ (p : PremiseTree). p.atom) in let most = back_few source clean made item_ there in omega (arith, e, back, most);
         right = let most = right_few source clean made item_ there in omega (arith, right, most);
-        premise_nodes = subst (AllByRecursion (λ (p : PremiseTree). IsSmallPattern p.atom)) (sym by.premises_are) (all_filter (λ (p : PremiseTree). IsSmallPattern p.atom) (λ p. not (is_back source p.atom)) by.left small);
-        back_nodes = subst (AllByRecursion IsSmallPattern) (sym by.backs_are) (back_part source clean made IsSmallPattern by.left small);
-        right_nodes = all_follow (IsJudged source clean made) IsSmallPattern rule.right small_atom right_judged;
+        premise_nodes = subst (AllByRecursion (λ (p : PremiseTree). IsSmallPattern p.atom)) (sym by.premises_are) (all_filter (λ (p : PremiseTree). IsSmallPattern p.atom) (λ p. not (is_back source p.atom)) by.left (all_unmap IsSmallPattern (λ (p : PremiseTree). p.atom) by.left small));
+        back_nodes = subst (AllByRecursion IsSmallPattern) (sym by.backs_are) (part_all source clean made IsSmallPattern _ by.left small);
+        right_nodes = all_follow (IsJudged source clean made) IsSmallPattern rule.right (λ atom j. j.small) right_judged;
       }
 
   small_clause : (item_ : ClauseItem) (clause : ClauseTree) → Contains (clauses_of source) item_ → IsClauseBy source item_ clause → IsSmallClause clause
@@ -291,7 +282,7 @@ module _ (source : Source) (clean : IsClean source) (made : AtomsMade source) (i
         vars = let v = ap length by.vars_are in let most = clause_vars_few item_ there in omega (arith, v, most);
         goals = let most = goals_few source clean made item_ there in omega (arith, size, most);
         head_nodes = judged.0.small;
-        goal_nodes = all_follow (IsJudged source clean made) IsSmallPattern clause.goals small_atom judged.1;
+        goal_nodes = all_follow (IsJudged source clean made) IsSmallPattern clause.goals (λ atom j. j.small) judged.1;
       }
 
   small_signature : IsSmallSignature (signature_of source)
@@ -335,7 +326,7 @@ module _ (source : Source) (clean : IsClean source) (made : AtomsMade source) (i
 
   -- a rule has as many backward premises as are written
   pub backs_counted : (item_ : RuleItem) (rule : Rule) → Contains (rules_of source) item_ → IsRuleBy source item_ rule → length rule.backs ≡ length (backs_at source item_)
-  backs_counted item_ rule there by = grind (arith, length-map, back_count source clean made rule.vars 0 item_.raw.left by.left (left_here source clean made item_ there) by.left_is, left_here source clean made item_ there, by.backs_are, by.left, rule.vars, item_.raw.left, by.left_is, item_.raw)
+  backs_counted item_ rule there by = grind (arith, length-map, premise_count source clean made (λ b. b) may_be_backward rule.vars 0 item_.raw.left by.left (λ its. refl) (left_here source clean made item_ there) by.left_is, left_here source clean made item_ there, by.backs_are, by.left, rule.vars, item_.raw.left, by.left_is, item_.raw)
 
   pub is_program : (parts : Parts) → AreParts source parts → AllByRecursion (IsGrounded parts.clauses) parts.rules → IsProgram parts
   is_program parts are grounded =
@@ -350,9 +341,9 @@ module _ (source : Source) (clean : IsClean source) (made : AtomsMade source) (i
         small = ordered.small;
         named = record {
           sorts = subst (λ (s : Signature). AreNames s.sorts) (sym are.signature_is) (sort_names source clean items);
-          cons = subst (λ (s : Signature). AreNames (map (λ con. con.name) s.cons)) (sym are.signature_is) (subst AreNames (map_same (λ (con : Con). con.name) (con_by source) (λ (con : ConItem). said source con.name) (cons_of source) (λ con. refl)) (con_names source clean items));
-          preds = subst (λ (s : Signature). AreNames (map (λ pred. pred.name) s.preds)) (sym are.signature_is) (subst AreNames (map_same (λ (pred : PredDecl). pred.name) (pred_by source) (λ (pred : PredItem). said source pred.name) (preds_of source) (λ pred. refl)) (pred_names source clean items));
-          stages = subst (λ (ss : List Stage). AreNames (map (λ stage. stage.name) ss)) (sym are.stages_are) (subst AreNames (map_same (λ (stage : Stage). stage.name) (stage_by source) (said source) (stages_of source) (λ stage. refl)) (stage_names source clean items));
+          cons = subst (λ (s : Signature). AreNames (map (λ con. con.name) s.cons)) (sym are.signature_is) (subst AreNames (sym (map_twice (λ (con : Con). con.name) (con_by source) (cons_of source))) (con_names source clean items));
+          preds = subst (λ (s : Signature). AreNames (map (λ pred. pred.name) s.preds)) (sym are.signature_is) (subst AreNames (sym (map_twice (λ (pred : PredDecl). pred.name) (pred_by source) (preds_of source))) (pred_names source clean items));
+          stages = subst (λ (ss : List Stage). AreNames (map (λ stage. stage.name) ss)) (sym are.stages_are) (subst AreNames (sym (map_twice (λ (stage : Stage). stage.name) (stage_by source) (stages_of source))) (stage_names source clean items));
           rules = subst AreNames (sym are.rule_names_are) (rule_names source clean items);
           rule_vars = each_rule (λ rule. AllByRecursion IsVariableName rule.vars) (λ item_ rule there by.
               let here = rule_here source clean made item_ there in
@@ -416,12 +407,12 @@ record AreSplit (front back : ℕ) (ts : Trees) : Type 0 where
   heads : heads_among ts ≡ heads_among first ++ heads_among rest
 
 split : (front back : ℕ) (ts : Trees) → argument_count ts ≡ front + back → AreSplit front back ts
-split zero back ts count = record { first = none; rest = ts; first_count = refl; rest_count = omega (arith, count); heads = refl }
-split (suc front) back none count = absurd (omega (arith, count))
-split (suc front) back (more t ts) count =
+split zero back ts count = record { first = Trees.none; rest = ts; first_count = refl; rest_count = omega (arith, count); heads = refl }
+split (suc front) back Trees.none count = absurd (omega (arith, count))
+split (suc front) back (Trees.more t ts) count =
     let is = split front back ts (omega (arith, count)) in
     record {
-      first = more t is.first;
+      first = Trees.more t is.first;
       rest = is.rest;
       first_count = ap suc is.first_count;
       rest_count = is.rest_count;
@@ -438,62 +429,50 @@ module _ (source : Source) (vars : List (List ℕ)) where
   build_node : (shape : RawKind) (at : Span) (args terms blanks : ℕ) (heads : List Head) → IsCount shape args → AreBuilt (args + terms) heads → AreBuilt (suc terms) (head_at source vars blanks shape at args ∷ heads)
   build_node kind.App at args terms blanks heads is built =
       let parts = split args terms built.trees built.count in
-      let head : con (number_of source space.Constructors (said source at)) (argument_count parts.first) ≡ con (number_of source space.Constructors (said source at)) args = ap (con (number_of source space.Constructors (said source at))) parts.first_count in
+      let head : Head.con (number_of source space.Constructors (said source at)) (argument_count parts.first) ≡ Head.con (number_of source space.Constructors (said source at)) args = ap (Head.con (number_of source space.Constructors (said source at))) parts.first_count in
       let rest = sym parts.heads ∙ built.heads_are in
       record {
-        trees = more (node (number_of source space.Constructors (said source at)) parts.first) parts.rest;
+        trees = Trees.more (Tree.node (number_of source space.Constructors (said source at)) parts.first) parts.rest;
         count = ap suc parts.rest_count;
-        heads_are = ap (λ h. h ∷ (heads_among parts.first ++ heads_among parts.rest)) head ∙ ap (λ hs. con (number_of source space.Constructors (said source at)) args ∷ hs) rest;
+        heads_are = ap (λ h. h ∷ (heads_among parts.first ++ heads_among parts.rest)) head ∙ ap (λ hs. Head.con (number_of source space.Constructors (said source at)) args ∷ hs) rest;
       }
   build_node kind.Var at args terms blanks heads is built = record {
-    trees = more (variable (variable_of vars (said source at))) built.trees;
+    trees = Trees.more (Tree.variable (variable_of vars (said source at))) built.trees;
     count = let c = built.count in omega (arith, c, is);
-    heads_are = ap (λ hs. var (variable_of vars (said source at)) ∷ hs) built.heads_are;
+    heads_are = ap (λ hs. Head.var (variable_of vars (said source at)) ∷ hs) built.heads_are;
   }
   build_node kind.Blank at args terms blanks heads is built = record {
-    trees = more (variable (variable_of vars (codes "_" ++ decimal (blanks + 1)))) built.trees;
+    trees = Trees.more (Tree.variable (variable_of vars (codes "_" ++ decimal (blanks + 1)))) built.trees;
     count = let c = built.count in omega (arith, c, is);
-    heads_are = ap (λ hs. var (variable_of vars (codes "_" ++ decimal (blanks + 1))) ∷ hs) built.heads_are;
+    heads_are = ap (λ hs. Head.var (variable_of vars (codes "_" ++ decimal (blanks + 1))) ∷ hs) built.heads_are;
   }
 
   build : (terms : ℕ) (nodes_ : List RawNode) (blanks : ℕ) → Fill terms nodes_ → AreBuilt terms (heads_from source vars blanks nodes_)
-  build zero [] blanks fill = record { trees = none; count = refl; heads_are = refl }
+  build zero [] blanks fill = record { trees = Trees.none; count = refl; heads_are = refl }
   build (suc terms) (first ∷ nodes_) blanks fill = grind (arith, build_node, first.kind, first.at, first.args, fill.0, build (first.args + terms) nodes_ (blanks_behind blanks first.kind) fill.1, fill.1)
   build terms nodes_ blanks fill = absurd fill
 
-  -- the atom that is written
-  record HasAtom (blanks : ℕ) (raw : RawAtom) : Type 0 where
-    atom : AtomTree
-    by : IsAtomBy source vars blanks raw atom
-
-  has_atom : (blanks : ℕ) (raw : RawAtom) → Fill raw.args raw.nodes → HasAtom blanks raw
+  -- the atoms that are written
+  has_atom : (blanks : ℕ) (raw : RawAtom) → Fill raw.args raw.nodes → (atom : AtomTree) × IsAtomBy source vars blanks raw atom
   has_atom blanks raw fill =
       let built = build raw.args raw.nodes blanks fill in
-      record { atom = record { pred = number_of source space.Predicates (said source raw.name); args = built.trees }; by = record { pred = refl; count = built.count; heads = built.heads_are } }
+      (record { pred = number_of source space.Predicates (said source raw.name); args = built.trees }, record { pred = refl; count = built.count; heads = built.heads_are })
 
-  record HasAtoms (blanks : ℕ) (raws : List RawAtom) : Type 0 where
-    list : List AtomTree
-    by : AreAtomsBy source vars blanks raws list
-
-  has_atoms : (blanks : ℕ) (raws : List RawAtom) → ((raw : RawAtom) → Contains raws raw → Fill raw.args raw.nodes) → HasAtoms blanks raws
-  has_atoms blanks [] fill = record { list = []; by = tt }
+  has_atoms : (blanks : ℕ) (raws : List RawAtom) → ((raw : RawAtom) → Contains raws raw → Fill raw.args raw.nodes) → (list : List AtomTree) × AreAtomsBy source vars blanks raws list
+  has_atoms blanks [] fill = ([], tt)
   has_atoms blanks (raw ∷ raws) fill =
       let here = has_atom blanks raw (fill raw (contains_first raw raws)) in
       let rest = has_atoms (blanks_after blanks raw.nodes) raws (λ other there. fill other (contains_behind raw raws other there)) in
-      record { list = here.atom ∷ rest.list; by = (here.by, rest.by) }
+      (here.0 ∷ rest.0, (here.1, rest.1))
 
-  record HasPremises (blanks : ℕ) (elems : List RawElem) : Type 0 where
-    list : List PremiseTree
-    by : ArePremisesBy source vars blanks elems list
-
-  has_premises : (blanks : ℕ) (elems : List RawElem) → ((raw : RawAtom) → Contains (atoms_of elems) raw → Fill raw.args raw.nodes) → HasPremises blanks elems
-  has_premises blanks [] fill = record { list = []; by = tt }
-  has_premises blanks (elem.Qui span ∷ elems) fill = let rest = has_premises blanks elems fill in record { list = rest.list; by = rest.by }
-  has_premises blanks (elem.Stage span ∷ elems) fill = let rest = has_premises blanks elems fill in record { list = rest.list; by = rest.by }
+  has_premises : (blanks : ℕ) (elems : List RawElem) → ((raw : RawAtom) → Contains (atoms_of elems) raw → Fill raw.args raw.nodes) → (list : List PremiseTree) × ArePremisesBy source vars blanks elems list
+  has_premises blanks [] fill = ([], tt)
+  has_premises blanks (elem.Qui span ∷ elems) fill = has_premises blanks elems fill
+  has_premises blanks (elem.Stage span ∷ elems) fill = has_premises blanks elems fill
   has_premises blanks (elem.Atom kept raw ∷ elems) fill =
       let here = has_atom blanks raw (fill raw (contains_first raw (atoms_of elems))) in
       let rest = has_premises (blanks_after blanks raw.nodes) elems (λ other there. fill other (contains_behind raw (atoms_of elems) other there)) in
-      record { list = record { atom = here.atom; kept = kept || is_fact_by source here.atom } ∷ rest.list; by = (refl, here.by, rest.by) }
+      (record { atom = here.0; kept = kept || is_fact_by source here.0 } ∷ rest.0, (refl, here.1, rest.1))
 
 -- as many names as rules
 names_from : (source : Source) (unlabelled : ℕ) (rules : List RuleItem) → length (rule_names_from source unlabelled rules) ≡ length rules
@@ -501,59 +480,45 @@ names_from source unlabelled [] = refl
 names_from source unlabelled (rule ∷ rules) = ap suc (names_from source (unlabelled_behind unlabelled rule.raw.label) rules)
 
 module _ (source : Source) (clean : IsClean source) (made : AtomsMade source) (starts : StartLaws) where
-  record HasRule (name : List ℕ) (item : RuleItem) : Type 0 where
-    rule : Rule
-    name_is : rule.name ≡ name
-    by : IsRuleBy source item rule
-
-  has_rule : (name : List ℕ) (item : RuleItem) → Contains (rules_of source) item → HasRule name item
+  has_rule : (name : List ℕ) (item : RuleItem) → Contains (rules_of source) item → (rule : Rule) × (rule.name ≡ name) × IsRuleBy source item rule
   has_rule name item there =
       let vars = names_of source (rule_scope item) in
       let left = has_premises source vars 0 item.raw.left (λ raw inside. (left_here source clean made item there raw inside).filled) in
-      let right = has_atoms source vars (blanks_after 0 (raw_nodes (atoms_of item.raw.left))) (atoms_of item.raw.right) (λ raw inside. (right_here source clean made item there raw inside).filled) in
-      record {
-        rule = record {
+      let right = has_atoms source vars (blanks_after 0 (raw_nodes (atoms_of item.raw.left))) (atoms_of item.raw.right) (λ raw inside. (right_here source clean made item there raw inside).filled) in (
+        record {
           name = name;
           group = group_of source item.home item.raw.left;
           vars = vars;
           kinds = kinds_of source (rule_scope item);
-          premises = filter (λ (p : PremiseTree). not (is_back source p.atom)) left.list;
-          backs = map (λ (p : PremiseTree). p.atom) (filter (λ (p : PremiseTree). is_back source p.atom) left.list);
-          right = right.list;
+          premises = filter (λ (p : PremiseTree). not (is_back source p.atom)) left.0;
+          backs = map (λ (p : PremiseTree). p.atom) (filter (λ (p : PremiseTree). is_back source p.atom) left.0);
+          right = right.0;
           next = next_of source item.home item.raw.right;
-        };
-        name_is = refl;
-        by = record { group_is = refl; next_is = refl; vars_are = refl; kinds_are = refl; left = left.list; left_is = left.by; premises_are = refl; backs_are = refl; right_is = right.by };
-      }
+        },
+        refl,
+        record { group_is = refl; next_is = refl; vars_are = refl; kinds_are = refl; left = left.0; left_is = left.1; premises_are = refl; backs_are = refl; right_is = right.1 },
+      )
 
-  record HasRules (names : List (List ℕ)) (items : List RuleItem) : Type 0 where
-    rules : List Rule
-    names_are : map (λ (rule : Rule). rule.name) rules ≡ names
-    by : AllZip (IsRuleBy source) items rules
-
-  has_rules : (names : List (List ℕ)) (items : List RuleItem) → length names ≡ length items → ((item : RuleItem) → Contains items item → Contains (rules_of source) item) → HasRules names items
-  has_rules [] [] size among = record { rules = []; names_are = refl; by = tt }
+  has_rules : (names : List (List ℕ)) (items : List RuleItem) → length names ≡ length items → ((item : RuleItem) → Contains items item → Contains (rules_of source) item)
+      → (rules : List Rule) × (map (λ (rule : Rule). rule.name) rules ≡ names) × AllZip (IsRuleBy source) items rules
+  has_rules [] [] size among = ([], refl, tt)
   has_rules (name ∷ names) (item ∷ items) size among =
       let here = has_rule name item (among item (contains_first item items)) in
       let rest = has_rules names items (omega (arith, size)) (λ other there. among other (contains_behind item items other there)) in
-      record { rules = here.rule ∷ rest.rules; names_are = cc; by = (here.by, rest.by) }
+      (here.0 ∷ rest.0, cc (here.1, rest.1), (here.2, rest.2))
   has_rules names items size among = absurd (omega (arith, size))
-
-  record HasClauses (items : List ClauseItem) : Type 0 where
-    clauses : List ClauseTree
-    by : AllZip (IsClauseBy source) items clauses
 
   clause_from : (item : ClauseItem) (list : List AtomTree) → AreAtomsBy source (names_of source (clause_scope item)) 0 (clause_scope item) list → (clause : ClauseTree) × IsClauseBy source item clause
   clause_from item [] by = absurd by
   clause_from item (head ∷ goals) by = (record { vars = names_of source (clause_scope item); kinds = kinds_of source (clause_scope item); head = head; goals = goals }, record { vars_are = refl; kinds_are = refl; atoms_are = by })
 
-  has_clauses : (items : List ClauseItem) → ((item : ClauseItem) → Contains items item → Contains (clauses_of source) item) → HasClauses items
-  has_clauses [] among = record { clauses = []; by = tt }
+  has_clauses : (items : List ClauseItem) → ((item : ClauseItem) → Contains items item → Contains (clauses_of source) item) → (clauses : List ClauseTree) × AllZip (IsClauseBy source) items clauses
+  has_clauses [] among = ([], tt)
   has_clauses (item ∷ items) among =
       let atoms = has_atoms source (names_of source (clause_scope item)) 0 (clause_scope item) (λ raw inside. ((clause_here source clean made item (among item (contains_first item items))).here raw inside).filled) in
-      let here = clause_from item atoms.list atoms.by in
+      let here = clause_from item atoms.0 atoms.1 in
       let rest = has_clauses items (λ other there. among other (contains_behind item items other there)) in
-      record { clauses = here.0 ∷ rest.clauses; by = (here.1, rest.by) }
+      (here.0 ∷ rest.0, (here.1, rest.1))
 
   parts_from : (traces : List TraceItem) → traces_of source ≡ traces → (parts : Parts) × AreParts source parts
   parts_from [] is = absurd (clean.names (wrong NoTrace (length source.text)) (no_trace is refl))
@@ -566,23 +531,23 @@ module _ (source : Source) (clean : IsClean source) (made : AtomsMade source) (s
         record {
           signature = signature_of source;
           stages = map (stage_by source) (stages_of source);
-          rules = rules.rules;
-          clauses = clauses.clauses;
+          rules = rules.0;
+          clauses = clauses.0;
           start_stage = number_of source space.Stages (said source trace.stage);
-          start = once (is_fact_by source) (gathered start.list);
+          start = once (is_fact_by source) (gathered start.0);
           turns = option_and_then (turns_said source.text) trace.limit;
         },
         record {
           signature_is = refl;
           stages_are = refl;
-          rules_are = rules.by;
-          rule_names_are = rules.names_are;
-          clauses_are = clauses.by;
+          rules_are = rules.2;
+          rule_names_are = rules.1;
+          clauses_are = clauses.1;
           trace = trace;
           rest = rest;
           first = is;
           start_stage_is = refl;
-          start_is = record { atoms = start.list; atoms_are = start.by; start_is = refl };
+          start_is = record { atoms = start.0; atoms_are = start.1; start_is = refl };
           turns_are = refl;
         },
       )

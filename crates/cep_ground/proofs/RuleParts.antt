@@ -1,5 +1,5 @@
--- The atoms of rules and clauses, and the names and the types of their variables.
-use Rattle.std.proofs.Common.{◌≡◌, ◌⊎◌, ⊎_elim, ◌<◌, ◌≤◌, ◌^◌, Bool, true, false, not, List, length, refl, sym, ap, subst, ◌∙◌, arith, Contains, length-append, ℕ, suc, ◌+◌, [], ◌∷◌, ◌++◌, map, inl, inr, zero, filter, append_assoc, ◌||◌}
+-- What the rules of a text keep: types, predicates, limits, and where their variables get values.
+use Rattle.std.proofs.Common.{◌≡◌, ◌⊎◌, ⊎_elim, ◌<◌, ◌≤◌, ◌^◌, Bool, true, false, not, List, length, refl, sym, ap, subst, ◌∙◌, arith, Contains, length-append, ℕ, suc, ◌+◌, [], ◌∷◌, ◌++◌, map, inl, inr, filter, append_assoc, ◌||◌}
 use Rattle.std.proofs.lemmas.List.{length-map}
 use Rattle.std.specs.Prelude.{Option, Some, unwrap_or, codes, decimal, slice_get, cond}
 use Rattle.std.specs.Option.{option_map}
@@ -21,13 +21,13 @@ use Rattle.cep_source.specs.Uses.{made_atoms, clause_atoms, atoms_written, state
 use Rattle.cep_refusal.specs.First.{wrong}
 use Rattle.cep_faults.specs.Premises.{state_premises_of, backward_of}
 use Rattle.cep_faults.specs.Misnamed.Misnamed.{over, backward_in_state, linear_in_clause}
-use Rattle.cep_faults.specs.Limits.IsOver.{premise, back, right, goal}
+use Rattle.cep_faults.specs.Limits.{IsOver as overs}
 use Rattle.cep_types.specs.Sites.{Site, sites_of, IsScope, rule_scope, clause_scope, IsScope as scopes, Wanted, pred_types, node_types, sites_from, sites_in, wanted_from, type_of}
 use Rattle.cep_infer.specs.Shapes.{IsSource}
 use Rattle.cep_ground.specs.Texts.{IsClean}
-use Rattle.cep_base.proofs.Elements.{contains_either, contains_map, flat_cases, all_at, contains_none, contains_first, contains_behind, contains_cases, contains_left, contains_right, contains_flat, map_cases, all_of, contains_at}
-use Rattle.cep_ground.proofs.NameLaws.{pred_known, needed_here, made_there, made_here, clause_there, clause_atom_here, known, at_most, filters_cover, nodes_few, all_map, variable_word, tokens_few, variable_is, any_found, found_in, AreWords, wanted_names, is_any, firsts_there, number_within, IsFound, filter_keeps, all_filter, all_pass, any_is, nodes_at, wanted_both, located}
-use Rattle.cep_ground.proofs.Scopes.{IsHere, scope_nodes, typed_atoms, typed_premises}
+use Rattle.cep_base.proofs.Elements.{both_all, contains_either, contains_map, flat_cases, all_at, contains_none, contains_first, contains_behind, contains_cases, contains_left, contains_right, contains_flat, map_cases, all_of, contains_at}
+use Rattle.cep_ground.proofs.NameLaws.{all_unmap, all_passing, there_within, not_otherwise, pred_known, needed_here, made_there, made_here, clause_there, clause_atom_here, known, at_most, filters_cover, nodes_few, all_map, variable_word, tokens_few, variable_is, any_found, found_in, AreWords, wanted_names, is_any, firsts_there, number_within, IsFound, filter_keeps, all_filter, any_is, nodes_at, wanted_both, located}
+use Rattle.cep_ground.proofs.Scopes.{IsHere, scope_nodes, typed_atoms}
 use Rattle.std.proofs.lemmas.Fmt.{length-decimal-le}
 use Rattle.std.specs.Str.{bytes_eq}
 use Rattle.std.specs.List.{AllByRecursion, flat_map, list_any}
@@ -120,16 +120,16 @@ module _ (source : Source) (clean : IsClean source) (made : AtomsMade source) wh
   kind_known raw here = ap (option_map (λ (pred : PredItem). pred.kind)) (pred_known source raw clean.names here.there).found
 
   pub linear_few : (rule : RuleItem) → Contains (rules_of source) rule → length (state_premises_of source rule.raw) ≤ 16
-  linear_few rule there = at_most (state_premises_of source rule.raw) 16 (λ atom found. clean.names (wrong OverLimit atom.name.from) (over atom.name.from (premise rule atom there found refl) refl))
+  linear_few rule there = at_most (state_premises_of source rule.raw) 16 (λ atom found. clean.names (wrong OverLimit atom.name.from) (over atom.name.from (overs.premise rule atom there found refl) refl))
 
   pub back_few : (rule : RuleItem) → Contains (rules_of source) rule → length (backward_of source rule.raw) ≤ 8
-  back_few rule there = at_most (backward_of source rule.raw) 8 (λ atom found. clean.names (wrong OverLimit atom.name.from) (over atom.name.from (back rule atom there found refl) refl))
+  back_few rule there = at_most (backward_of source rule.raw) 8 (λ atom found. clean.names (wrong OverLimit atom.name.from) (over atom.name.from (overs.back rule atom there found refl) refl))
 
   pub right_few : (rule : RuleItem) → Contains (rules_of source) rule → length (atoms_of rule.raw.right) ≤ 32
-  right_few rule there = at_most (atoms_of rule.raw.right) 32 (λ atom found. clean.names (wrong OverLimit atom.name.from) (over atom.name.from (right rule atom there found refl) refl))
+  right_few rule there = at_most (atoms_of rule.raw.right) 32 (λ atom found. clean.names (wrong OverLimit atom.name.from) (over atom.name.from (overs.right rule atom there found refl) refl))
 
   pub goals_few : (clause : ClauseItem) → Contains (clauses_of source) clause → length clause.goals ≤ 8
-  goals_few clause there = at_most clause.goals 8 (λ atom found. clean.names (wrong OverLimit atom.name.from) (over atom.name.from (goal clause atom there found refl) refl))
+  goals_few clause there = at_most clause.goals 8 (λ atom found. clean.names (wrong OverLimit atom.name.from) (over atom.name.from (overs.goal clause atom there found refl) refl))
 
   left_few : (rule : RuleItem) → Contains (rules_of source) rule → length (atoms_of rule.raw.left) ≤ 24
   left_few rule there =
@@ -201,12 +201,8 @@ module _ (source : Source) (clean : IsClean source) (made : AtomsMade source) wh
   pred_types_known : (name : List ℕ) → AreTypes (pred_types source name)
   pred_types_known name = pred_types_by (pred_named source name) name refl
 
-  both_types : (one other : List (List ℕ)) → AreTypes one → AreTypes other → AreTypes (one ++ other)
-  both_types [] other here there = there
-  both_types (x ∷ one) other here there = (here.0, both_types one other here.1 there)
-
   sites_known : (types : List (List ℕ)) (nodes : List RawNode) → AreTypes types → AllByRecursion (λ (site : Site). is_in source space.Sorts site.wants ≡ true) (sites_from source types nodes)
-  sites_known (wants ∷ next) (first ∷ nodes) all = (all.0, sites_known (node_types source first.kind first.at ++ next) nodes (both_types (node_types source first.kind first.at) next (node_types_known first.kind first.at) all.1))
+  sites_known (wants ∷ next) (first ∷ nodes) all = (all.0, sites_known (node_types source first.kind first.at ++ next) nodes (both_all (λ name. is_in source space.Sorts name ≡ true) (node_types source first.kind first.at) next (node_types_known first.kind first.at) all.1))
   sites_known types nodes all = tt
 
   atom_sites_known : (atoms : List RawAtom) (site : Site) → Contains (sites_of source atoms) site → is_in source space.Sorts site.wants ≡ true
@@ -304,36 +300,26 @@ in_atoms source vars blanks (raw ∷ raws) (atom ∷ list) o by there =
     (contains_either (occurrences_from source blanks raw.nodes) _ o (subst (λ os. Contains os o) (occurrences_both source blanks raw.nodes (raw_nodes raws)) there))
 in_atoms source vars blanks raws list o by there = grind (arith, contains_none)
 
--- the premise in which it occurs
-pub record OccursInPremise (v : ℕ) (list : List PremiseTree) : Type 0 where
-  pub premise : PremiseTree
-  pub there : Contains list premise
-  pub occurs : OccursIn v premise.atom
+-- the atoms of premises, in turn
+pub premise_atoms : (source : Source) (vars : List (List ℕ)) (blanks : ℕ) (elems : List RawElem) (list : List PremiseTree) → ArePremisesBy source vars blanks elems list → AreAtomsBy source vars blanks (atoms_of elems) (map (λ p. p.atom) list)
+premise_atoms source vars blanks (elem.Qui span ∷ elems) list by = premise_atoms source vars blanks elems list by
+premise_atoms source vars blanks (elem.Stage span ∷ elems) list by = premise_atoms source vars blanks elems list by
+premise_atoms source vars blanks (elem.Atom kept raw ∷ elems) (p ∷ list) by = (by.1, premise_atoms source vars (blanks_after blanks raw.nodes) elems list by.2)
+premise_atoms source vars blanks elems list by = grind arith
 
-in_premises : (source : Source) (vars : List (List ℕ)) (blanks : ℕ) (elems : List RawElem) (list : List PremiseTree) (o : Occurrence) → ArePremisesBy source vars blanks elems list → Contains (occurrences_from source blanks (raw_nodes (atoms_of elems))) o → OccursInPremise (variable_of vars o.name) list
-in_premises source vars blanks (elem.Qui span ∷ elems) list o by there = in_premises source vars blanks elems list o by there
-in_premises source vars blanks (elem.Stage span ∷ elems) list o by there = in_premises source vars blanks elems list o by there
-in_premises source vars blanks (elem.Atom kept raw ∷ elems) (p ∷ list) o by there =
-    ⊎_elim
-    (λ here. record { premise = p; there = contains_first p list; occurs = occurs_in_atom source vars blanks raw p.atom o by.1 here })
-    (λ later. let is = in_premises source vars (blanks_after blanks raw.nodes) elems list o by.2 later in record { premise = is.premise; there = contains_behind p list is.premise is.there; occurs = is.occurs })
-    (contains_either (occurrences_from source blanks raw.nodes) _ o (subst (λ os. Contains os o) (occurrences_both source blanks raw.nodes (raw_nodes (atoms_of elems))) there))
-in_premises source vars blanks elems list o by there = grind (arith, contains_none)
+-- what occurs in some premise occurs in one that passes a test, or in one that does not
+occurs_either : (v : ℕ) (xs ys : List AtomTree) → OccursInSome v xs ⊎ OccursInSome v ys → OccursInSome v (xs ++ ys)
+occurs_either v [] ys there = ⊎_elim (λ never. absurd never) (λ right. right) there
+occurs_either v (x ∷ xs) ys there = ⊎_elim (λ left. ⊎_elim (λ here. inl here) (λ later. inr (occurs_either v xs ys (inl later))) left) (λ right. inr (occurs_either v xs ys (inr right))) there
 
--- an atom of a list
-occurs_in_list : (v : ℕ) (list : List AtomTree) (atom : AtomTree) → Contains list atom → OccursIn v atom → OccursInSome v list
-occurs_in_list v [] atom there occurs = absurd (contains_none atom there)
-occurs_in_list v (first ∷ list) atom there occurs =
-    ⊎_elim (λ (same : first ≡ atom). inl (subst (OccursIn v) (sym same) occurs)) (λ later. inr (occurs_in_list v list atom later occurs)) (contains_cases first list atom there)
-
-occurs_in_part : (source : Source) (v : ℕ) (list : List PremiseTree) → OccursInPremise v list → (b : Bool) → (p : PremiseTree) → Contains list p → OccursIn v p.atom → is_back source p.atom ≡ b
-    → OccursInSome v (map (λ p. p.atom) (filter (λ p. not (is_back source p.atom)) list) ++ map (λ p. p.atom) (filter (λ p. is_back source p.atom) list))
-occurs_in_part source v list is true p there occurs judged =
-    let some = map (λ (p : PremiseTree). p.atom) (filter (λ p. is_back source p.atom) list) in
-    occurs_in_list v _ p.atom (contains_right (map (λ p. p.atom) (filter (λ p. not (is_back source p.atom)) list)) some p.atom (contains_map (λ (p : PremiseTree). p.atom) (filter (λ p. is_back source p.atom) list) p (filter_keeps (λ p. is_back source p.atom) list p there judged))) occurs
-occurs_in_part source v list is false p there occurs judged =
-    let some = map (λ (p : PremiseTree). p.atom) (filter (λ p. not (is_back source p.atom)) list) in
-    occurs_in_list v _ p.atom (contains_left some _ p.atom (contains_map (λ (p : PremiseTree). p.atom) (filter (λ p. not (is_back source p.atom)) list) p (filter_keeps (λ p. not (is_back source p.atom)) list p there (ap not judged)))) occurs
+occurs_parted : (v : ℕ) (test : PremiseTree → Bool) (list : List PremiseTree) → OccursInSome v (map (λ p. p.atom) list)
+    → OccursInSome v (map (λ p. p.atom) (filter (λ p. not (test p)) list)) ⊎ OccursInSome v (map (λ p. p.atom) (filter test list))
+occurs_parted v test [] there = absurd there
+occurs_parted v test (p ∷ list) there = by (test p) (⊎_elim (λ here. inl here) (λ later. inr (occurs_parted v test list later)) there)
+  where
+    by : (b : Bool) → OccursIn v p.atom ⊎ (OccursInSome v (map (λ p. p.atom) (filter (λ p. not (test p)) list)) ⊎ OccursInSome v (map (λ p. p.atom) (filter test list)))
+        → OccursInSome v (map (λ (p : PremiseTree). p.atom) (cond (not b) (p ∷ filter (λ p. not (test p)) list) (filter (λ p. not (test p)) list))) ⊎ OccursInSome v (map (λ (p : PremiseTree). p.atom) (cond b (p ∷ filter test list) (filter test list)))
+    by b there = grind arith
 
 -- where nothing is left by a test, nothing passes it
 none_pass : {X : Type 0} (p : X → Bool) (xs : List X) (x : X) → filter p xs ≡ [] → Contains xs x → p x ≡ false
@@ -361,12 +347,7 @@ module _ (source : Source) where
       inr (any_is (names_of source left) o.name (not_false (list_any (λ name. bytes_eq name o.name) (names_of source left)) left_out)))
 
   variable_there : (atoms : List RawAtom) (v : ℕ) → v < length (names_of source atoms) → IsFound (slice_get (variables_of source atoms) v)
-  variable_there atoms v within = there (variables_of source atoms) v (let e = length-map (variables_of source atoms) (λ (o : Occurrence). o.name) in omega (arith, e, within))
-    where
-      there : (xs : List Occurrence) (v : ℕ) → v < length xs → IsFound (slice_get xs v)
-      there [] v within = absurd (omega (arith, within))
-      there (x ∷ xs) zero within = record { it = x; found_is = refl }
-      there (x ∷ xs) (suc v) within = there xs v (omega (arith, within))
+  variable_there atoms v within = there_within (variables_of source atoms) v (omega (arith, length-map (variables_of source atoms) (λ (o : Occurrence). o.name)))
 
   pub rule_bound : (item : RuleItem) (rule : Rule) → unbound_of source item ≡ [] → IsRuleBy source item rule → IsBoundRule rule
   rule_bound item rule bound by v within =
@@ -375,10 +356,9 @@ module _ (source : Source) where
       let found = variable_there left v (subst (λ ns. v < length ns) vars within) in
       let number : variable_of (names_of source left) found.it.name ≡ v = variable_at (occurrences_of source left) v found.it found.found_is in
       let occurs = firsts_there [] (occurrences_of source left) found.it (contains_at (variables_of source left) v found.it found.found_is) in
-      let in_premise : OccursInPremise v by.left = subst (λ n. OccursInPremise n by.left) (ap (λ ns. variable_of ns found.it.name) vars ∙ number) (in_premises source rule.vars 0 item.raw.left by.left found.it by.left_is occurs) in
-      let all = occurs_in_part source v by.left in_premise (is_back source in_premise.premise.atom) in_premise.premise in_premise.there in_premise.occurs refl in
-      subst (λ (ps : List PremiseTree). OccursInSome v (map (λ p. p.atom) ps ++ rule.backs)) (sym by.premises_are)
-      (subst (λ (backs : List AtomTree). OccursInSome v (map (λ p. p.atom) (filter (λ p. not (is_back source p.atom)) by.left) ++ backs)) (sym by.backs_are) all)
+      let some : OccursInSome v (map (λ p. p.atom) by.left) = subst (λ n. OccursInSome n (map (λ p. p.atom) by.left)) (ap (λ ns. variable_of ns found.it.name) vars ∙ number)
+      (in_atoms source rule.vars 0 left (map (λ p. p.atom) by.left) found.it (premise_atoms source rule.vars 0 item.raw.left by.left by.left_is) occurs) in
+      rw (by.premises_are, by.backs_are) (occurs_either v _ _ (occurs_parted v (λ p. is_back source p.atom) by.left some))
 
   pub clause_bound : (item : ClauseItem) (clause : ClauseTree) → IsClauseBy source item clause → IsBoundClause clause
   clause_bound item clause by v within =
@@ -399,24 +379,28 @@ heads_size source vars blanks (first ∷ nodes) = ap suc (heads_size source vars
 pub atom_size : (source : Source) (vars : List (List ℕ)) (blanks : ℕ) (raw : RawAtom) (atom : AtomTree) → IsAtomBy source vars blanks raw atom → atom_nodes atom ≡ 1 + length raw.nodes
 atom_size source vars blanks raw atom by = grind (arith, terms_nodes, heads_size, atom.args, by.heads, raw.nodes)
 
--- two things hold of all
-pub all_both : {X : Type 0} (P Q : X → Type 0) (xs : List X) → AllByRecursion P xs → AllByRecursion Q xs → AllByRecursion (λ x. P x × Q x) xs
-all_both P Q [] one other = tt
-all_both P Q (x ∷ xs) one other = ((one.0, other.0), all_both P Q xs one.1 other.1)
+-- what holds of each atom that is made holds of all
+pub each_atom : (source : Source) (vars : List (List ℕ)) (P : AtomTree → Type 0) (blanks : ℕ) (raws : List RawAtom) (list : List AtomTree)
+    → ((raw : RawAtom) (blanks : ℕ) (atom : AtomTree) → Contains raws raw → IsAtomBy source vars blanks raw atom → P atom) → AreAtomsBy source vars blanks raws list → AllByRecursion P list
+each_atom source vars P blanks (raw ∷ raws) (atom ∷ list) each by = (
+  each raw blanks atom (contains_first raw raws) by.0,
+  each_atom source vars P (blanks_after blanks raw.nodes) raws list (λ other more_ a there. each other more_ a (contains_behind raw raws other there)) by.1,
+)
+each_atom source vars P blanks raws list each by = grind arith
 
 -- The predicate of an atom is this one.
-pub record IsOfPred (source : Source) (atom : AtomTree) (back : Bool) : Type 0 where
+pub record IsOfPred (source : Source) (raw : RawAtom) (atom : AtomTree) (back : Bool) : Type 0 where
   pub pred : PredItem
   pub found : slice_get (map (pred_by source) (preds_of source)) atom.pred ≡ Some (pred_by source pred)
   pub back_is : is_backward pred.kind ≡ back
   pub judged : is_back source atom ≡ back
-  pub fact_is : is_fact_by source atom ≡ is_of_facts pred.kind
+  pub fact_is : is_fact_by source atom ≡ is_of_fact source raw
 
 not_true : (b : Bool) → not b ≡ true → b ≡ false
 not_true b e = grind arith
 
 module _ (source : Source) (clean : IsClean source) (atoms_made : AtomsMade source) where
-  pub pred_at : (vars : List (List ℕ)) (blanks : ℕ) (raw : RawAtom) (atom : AtomTree) (here : IsHere source raw) → IsAtomBy source vars blanks raw atom → IsOfPred source atom (is_backward (pred_known source raw clean.names here.there).pred.kind)
+  pub pred_at : (vars : List (List ℕ)) (blanks : ℕ) (raw : RawAtom) (atom : AtomTree) (here : IsHere source raw) → IsAtomBy source vars blanks raw atom → IsOfPred source raw atom (is_backward (pred_known source raw clean.names here.there).pred.kind)
   pred_at vars blanks raw atom here by =
       let known = pred_known source raw clean.names here.there in
       let spot = located (λ (pred : PredItem). named source pred.name) (λ other. bytes_eq other.name (said source raw.name)) (preds_of source) known.pred known.found in
@@ -426,41 +410,21 @@ module _ (source : Source) (clean : IsClean source) (atoms_made : AtomsMade sour
         found = slice_get-map (pred_by source) (preds_of source) atom.pred ∙ ap (option_map (pred_by source)) at;
         back_is = refl;
         judged = ap (λ f. unwrap_or (option_map (λ (pred : PredItem). is_backward pred.kind) f) false) at;
-        fact_is = ap (λ f. unwrap_or (option_map (λ (pred : PredItem). is_of_facts pred.kind) f) false) at;
+        fact_is = ap (λ f. unwrap_or (option_map (λ (pred : PredItem). is_of_facts pred.kind) f) false) at ∙ sym (ap (λ (its : Option PredKind). unwrap_or (option_map is_of_facts its) false) (kind_known source clean atoms_made raw here));
       }
-
-  -- an atom is a fact where it is written as one
-  pub fact_at : (vars : List (List ℕ)) (blanks : ℕ) (raw : RawAtom) (atom : AtomTree) → IsHere source raw → IsAtomBy source vars blanks raw atom → is_fact_by source atom ≡ is_of_fact source raw
-  fact_at vars blanks raw atom here by =
-      let known = pred_known source raw clean.names here.there in
-      let spot = located (λ (pred : PredItem). named source pred.name) (λ other. bytes_eq other.name (said source raw.name)) (preds_of source) known.pred known.found in
-      ap (λ f. unwrap_or (option_map (λ (pred : PredItem). is_of_facts pred.kind) f) false) (ap (slice_get (preds_of source)) by.pred ∙ spot.here)
-      ∙ sym (ap (λ (its : Option PredKind). unwrap_or (option_map is_of_facts its) false) (kind_known source clean atoms_made raw here))
 
   -- A premise is judged as its predicate is declared, and it is small.
   pub record IsJudged (atom : AtomTree) : Type 0 where
+    pub raw : RawAtom
     pub back : Bool
-    pub of_pred : IsOfPred source atom back
+    pub of_pred : IsOfPred source raw atom back
     pub small : atom_nodes atom ≤ 1048576
 
   judged_at : (vars : List (List ℕ)) (blanks : ℕ) (raw : RawAtom) (atom : AtomTree) (here : IsHere source raw) → IsAtomBy source vars blanks raw atom → IsJudged atom
   judged_at vars blanks raw atom here by = grind (arith, pred_known source raw clean.names here.there, pred_at vars blanks raw atom here by, atom_size source vars blanks raw atom by, nodes_short source clean atoms_made raw here, clean.names, here.there)
 
-  pub judged_premises : (vars : List (List ℕ)) (blanks : ℕ) (elems : List RawElem) (list : List PremiseTree) → ((raw : RawAtom) → Contains (atoms_of elems) raw → IsHere source raw) → ArePremisesBy source vars blanks elems list → AllByRecursion (λ p. IsJudged p.atom) list
-  judged_premises vars blanks (elem.Qui span ∷ elems) list here by = judged_premises vars blanks elems list here by
-  judged_premises vars blanks (elem.Stage span ∷ elems) list here by = judged_premises vars blanks elems list here by
-  judged_premises vars blanks (elem.Atom kept raw ∷ elems) (p ∷ list) here by = (
-    judged_at vars blanks raw p.atom (here raw (contains_first raw (atoms_of elems))) by.1,
-    judged_premises vars (blanks_after blanks raw.nodes) elems list (λ other there. here other (contains_behind raw (atoms_of elems) other there)) by.2,
-  )
-  judged_premises vars blanks elems list here by = grind arith
-
   pub judged_atoms : (vars : List (List ℕ)) (blanks : ℕ) (raws : List RawAtom) (list : List AtomTree) → ((raw : RawAtom) → Contains raws raw → IsHere source raw) → AreAtomsBy source vars blanks raws list → AllByRecursion IsJudged list
-  judged_atoms vars blanks (raw ∷ raws) (atom ∷ list) here by = (
-    judged_at vars blanks raw atom (here raw (contains_first raw raws)) by.0,
-    judged_atoms vars (blanks_after blanks raw.nodes) raws list (λ other there. here other (contains_behind raw raws other there)) by.1,
-  )
-  judged_atoms vars blanks raws list here by = grind arith
+  judged_atoms vars blanks raws list here by = each_atom source vars IsJudged blanks raws list (λ raw more_ atom there is. judged_at vars more_ raw atom (here raw there) is) by
 
   of_state : (atom : AtomTree) (j : IsJudged atom) → is_back source atom ≡ false → HasStatePredicate (signature_of source) atom
   of_state atom j linear = grind (arith, j.of_pred)
@@ -468,54 +432,27 @@ module _ (source : Source) (clean : IsClean source) (atoms_made : AtomsMade sour
   backward_is : (atom : AtomTree) (j : IsJudged atom) → is_back source atom ≡ true → IsBackward (signature_of source) atom
   backward_is atom j yes_ = grind (arith, j.of_pred)
 
-  -- the linear premises of those that are judged
-  pub linear_part : (P : AtomTree → Type 0) (list : List PremiseTree) → AllByRecursion (λ p. P p.atom) list → AllByRecursion P (map (λ p. p.atom) (filter (λ p. not (is_back source p.atom)) list))
-  linear_part P list all = all_map P (λ (p : PremiseTree). p.atom) (filter (λ p. not (is_back source p.atom)) list) (all_filter (λ (p : PremiseTree). P p.atom) (λ p. not (is_back source p.atom)) list all)
+  -- those of some premises that pass a test
+  pub part_all : (P : AtomTree → Type 0) (test : PremiseTree → Bool) (list : List PremiseTree) → AllByRecursion P (map (λ p. p.atom) list) → AllByRecursion P (map (λ p. p.atom) (filter test list))
+  part_all P test list all = all_map P (λ (p : PremiseTree). p.atom) (filter test list) (all_filter (λ (p : PremiseTree). P p.atom) test list (all_unmap P (λ (p : PremiseTree). p.atom) list all))
 
-  pub back_part : (P : AtomTree → Type 0) (list : List PremiseTree) → AllByRecursion (λ p. P p.atom) list → AllByRecursion P (map (λ p. p.atom) (filter (λ p. is_back source p.atom) list))
-  back_part P list all = all_map P (λ (p : PremiseTree). p.atom) (filter (λ p. is_back source p.atom) list) (all_filter (λ (p : PremiseTree). P p.atom) (λ p. is_back source p.atom) list all)
-
-  pub divided_premises : (list : List PremiseTree) → AllByRecursion (λ p. IsJudged p.atom) list → AllByRecursion (HasStatePredicate (signature_of source)) (map (λ p. p.atom) (filter (λ p. not (is_back source p.atom)) list))
-  divided_premises list all =
-      let some = filter (λ (p : PremiseTree). not (is_back source p.atom)) list in
-      all_map (HasStatePredicate (signature_of source)) (λ (p : PremiseTree). p.atom) some
-      (all_follow (λ (p : PremiseTree). IsJudged p.atom × (not (is_back source p.atom) ≡ true)) (λ p. HasStatePredicate (signature_of source) p.atom) some (λ p h. of_state p.atom h.0 (not_true (is_back source p.atom) h.1))
-      (all_both (λ (p : PremiseTree). IsJudged p.atom) (λ p. not (is_back source p.atom) ≡ true) some (all_filter (λ (p : PremiseTree). IsJudged p.atom) (λ p. not (is_back source p.atom)) list all) (all_pass (λ p. not (is_back source p.atom)) list)))
-
-  pub divided_backs : (list : List PremiseTree) → AllByRecursion (λ p. IsJudged p.atom) list → AllByRecursion (IsBackward (signature_of source)) (map (λ p. p.atom) (filter (λ p. is_back source p.atom) list))
-  divided_backs list all =
-      let some = filter (λ (p : PremiseTree). is_back source p.atom) list in
-      all_map (IsBackward (signature_of source)) (λ (p : PremiseTree). p.atom) some
-      (all_follow (λ (p : PremiseTree). IsJudged p.atom × (is_back source p.atom ≡ true)) (λ p. IsBackward (signature_of source) p.atom) some (λ p h. backward_is p.atom h.0 h.1)
-      (all_both (λ (p : PremiseTree). IsJudged p.atom) (λ p. is_back source p.atom ≡ true) some (all_filter (λ (p : PremiseTree). IsJudged p.atom) (λ p. is_back source p.atom) list all) (all_pass (λ p. is_back source p.atom) list)))
+  part_passing : (P Q : AtomTree → Type 0) (test : PremiseTree → Bool) (list : List PremiseTree) → ((p : PremiseTree) → P p.atom → test p ≡ true → Q p.atom) → AllByRecursion P (map (λ p. p.atom) list) → AllByRecursion Q (map (λ p. p.atom) (filter test list))
+  part_passing P Q test list each all = all_map Q (λ (p : PremiseTree). p.atom) (filter test list) (all_passing (λ (p : PremiseTree). P p.atom) (λ (p : PremiseTree). Q p.atom) test list each (all_unmap P (λ (p : PremiseTree). p.atom) list all))
 
   -- the premises of a rule are divided as they are counted
   count_step : (b : Bool) (x : PremiseTree) (y : RawAtom) (xs : List PremiseTree) (ys : List RawAtom) (p : Bool) (q : Bool) → p ≡ q → length xs ≡ length ys → length (cond p (x ∷ xs) xs) ≡ length (cond q (y ∷ ys) ys)
   count_step b x y xs ys p q same size = grind arith
 
-  pub linear_count : (vars : List (List ℕ)) (blanks : ℕ) (elems : List RawElem) (list : List PremiseTree) → ((raw : RawAtom) → Contains (atoms_of elems) raw → IsHere source raw) → ArePremisesBy source vars blanks elems list
-      → length (filter (λ p. not (is_back source p.atom)) list) ≡ length (filter (λ atom. may_be_state (kind_of source atom)) (atoms_of elems))
-  linear_count vars blanks (elem.Qui span ∷ elems) list here by = linear_count vars blanks elems list here by
-  linear_count vars blanks (elem.Stage span ∷ elems) list here by = linear_count vars blanks elems list here by
-  linear_count vars blanks (elem.Atom kept raw ∷ elems) (p ∷ list) here by =
+  pub premise_count : (test : Bool → Bool) (may : Option PredKind → Bool) (vars : List (List ℕ)) (blanks : ℕ) (elems : List RawElem) (list : List PremiseTree)
+      → ((its : PredKind) → test (is_backward its) ≡ may (Some its)) → ((raw : RawAtom) → Contains (atoms_of elems) raw → IsHere source raw) → ArePremisesBy source vars blanks elems list
+      → length (filter (λ p. test (is_back source p.atom)) list) ≡ length (filter (λ atom. may (kind_of source atom)) (atoms_of elems))
+  premise_count test may vars blanks (elem.Qui span ∷ elems) list same here by = premise_count test may vars blanks elems list same here by
+  premise_count test may vars blanks (elem.Stage span ∷ elems) list same here by = premise_count test may vars blanks elems list same here by
+  premise_count test may vars blanks (elem.Atom kept raw ∷ elems) (p ∷ list) same here by =
       let is = here raw (contains_first raw (atoms_of elems)) in
-      let known = kind_known source clean atoms_made raw is in
-      let judged = (pred_at vars blanks raw p.atom is by.1).judged in
-      count_step true p raw _ _ (not (is_back source p.atom)) (may_be_state (kind_of source raw)) (ap not judged ∙ ap may_be_state (sym known))
-      (linear_count vars (blanks_after blanks raw.nodes) elems list (λ other there. here other (contains_behind raw (atoms_of elems) other there)) by.2)
-  linear_count vars blanks elems list here by = grind arith
-
-  pub back_count : (vars : List (List ℕ)) (blanks : ℕ) (elems : List RawElem) (list : List PremiseTree) → ((raw : RawAtom) → Contains (atoms_of elems) raw → IsHere source raw) → ArePremisesBy source vars blanks elems list
-      → length (filter (λ p. is_back source p.atom) list) ≡ length (filter (λ atom. may_be_backward (kind_of source atom)) (atoms_of elems))
-  back_count vars blanks (elem.Qui span ∷ elems) list here by = back_count vars blanks elems list here by
-  back_count vars blanks (elem.Stage span ∷ elems) list here by = back_count vars blanks elems list here by
-  back_count vars blanks (elem.Atom kept raw ∷ elems) (p ∷ list) here by =
-      let is = here raw (contains_first raw (atoms_of elems)) in
-      let known = kind_known source clean atoms_made raw is in
-      let judged = (pred_at vars blanks raw p.atom is by.1).judged in
-      count_step true p raw _ _ (is_back source p.atom) (may_be_backward (kind_of source raw)) (judged ∙ ap may_be_backward (sym known))
-      (back_count vars (blanks_after blanks raw.nodes) elems list (λ other there. here other (contains_behind raw (atoms_of elems) other there)) by.2)
-  back_count vars blanks elems list here by = grind arith
+      count_step true p raw _ _ (test (is_back source p.atom)) (may (kind_of source raw)) (ap test (pred_at vars blanks raw p.atom is by.1).judged ∙ same _ ∙ ap may (sym (kind_known source clean atoms_made raw is)))
+      (premise_count test may vars (blanks_after blanks raw.nodes) elems list same (λ other there. here other (contains_behind raw (atoms_of elems) other there)) by.2)
+  premise_count test may vars blanks elems list same here by = grind arith
 
   -- as many atoms are made as are written
   pub atoms_count : (vars : List (List ℕ)) (blanks : ℕ) (raws : List RawAtom) (list : List AtomTree) → AreAtomsBy source vars blanks raws list → length list ≡ length raws
@@ -533,27 +470,18 @@ module _ (source : Source) (clean : IsClean source) (atoms_made : AtomsMade sour
 
   -- so are the atoms of a right side
   pub right_of_state : (vars : List (List ℕ)) (blanks : ℕ) (raws : List RawAtom) (list : List AtomTree) → ((raw : RawAtom) → Contains raws raw → Contains (made_atoms source) raw) → ((raw : RawAtom) → Contains raws raw → IsHere source raw) → AreAtomsBy source vars blanks raws list → AllByRecursion (HasStatePredicate (signature_of source)) list
-  right_of_state vars blanks (raw ∷ raws) (atom ∷ list) at here by =
-      let is = here raw (contains_first raw raws) in
-      let linear = is_of_state raw is (contains_left (made_atoms source) (state_atoms source) raw (at raw (contains_first raw raws))) in (
-        of_state atom (judged_at vars blanks raw atom is by.0) ((pred_at vars blanks raw atom is by.0).judged ∙ linear),
-        right_of_state vars (blanks_after blanks raw.nodes) raws list (λ other there. at other (contains_behind raw raws other there)) (λ other there. here other (contains_behind raw raws other there)) by.1,
-      )
-  right_of_state vars blanks raws list at here by = grind arith
+  right_of_state vars blanks raws list at here by =
+      each_atom source vars (HasStatePredicate (signature_of source)) blanks raws list (λ raw more_ atom there is.
+      let linear = is_of_state raw (here raw there) (contains_left (made_atoms source) (state_atoms source) raw (at raw there)) in
+      of_state atom (judged_at vars more_ raw atom (here raw there) is) ((pred_at vars more_ raw atom (here raw there) is).judged ∙ linear)) by
 
   -- those of a clause are of backward ones
   pub clause_backward : (vars : List (List ℕ)) (blanks : ℕ) (raws : List RawAtom) (list : List AtomTree) → ((raw : RawAtom) → Contains raws raw → Contains (clause_atoms source) raw) → ((raw : RawAtom) → Contains raws raw → IsHere source raw) → AreAtomsBy source vars blanks raws list → AllByRecursion (IsBackward (signature_of source)) list
-  clause_backward vars blanks (raw ∷ raws) (atom ∷ list) at here by =
-      let is = here raw (contains_first raw raws) in
-      let its = (pred_known source raw clean.names is.there).pred.kind in
-      let yes_ = not_false (is_backward its) (λ (e : is_backward its ≡ false). clean.names (wrong LinearInClause raw.name.from) (linear_in_clause raw its (at raw (contains_first raw raws)) (kind_known source clean atoms_made raw is) e refl)) in (
-        backward_is atom (judged_at vars blanks raw atom is by.0) ((pred_at vars blanks raw atom is by.0).judged ∙ yes_),
-        clause_backward vars (blanks_after blanks raw.nodes) raws list (λ other there. at other (contains_behind raw raws other there)) (λ other there. here other (contains_behind raw raws other there)) by.1,
-      )
-    where
-      not_false : (b : Bool) → (b ≡ false → ⊥) → b ≡ true
-      not_false b never = grind arith
-  clause_backward vars blanks raws list at here by = grind arith
+  clause_backward vars blanks raws list at here by =
+      each_atom source vars (IsBackward (signature_of source)) blanks raws list (λ raw more_ atom there is.
+      let its = (pred_known source raw clean.names (here raw there).there).pred.kind in
+      let yes_ = not_otherwise (is_backward its) (λ e. clean.names (wrong LinearInClause raw.name.from) (linear_in_clause raw its (at raw there) (kind_known source clean atoms_made raw (here raw there)) e refl)) in
+      backward_is atom (judged_at vars more_ raw atom (here raw there) is) ((pred_at vars more_ raw atom (here raw there) is).judged ∙ yes_)) by
 
   -- a premise that is a fact is kept
   kept_by : (marked fact : Bool) → fact ≡ true → (marked || fact) ≡ true
@@ -581,10 +509,10 @@ module _ (source : Source) (clean : IsClean source) (atoms_made : AtomsMade sour
       let wanted_all : wanted_from source 0 (sites_of source scope) ≡ wanted_from source 0 (sites_of source left) ++ wanted_from source (blanks_after 0 (nodes_at (sites_of source left))) (sites_of source right) =
       ap (wanted_from source 0) sites_both ∙ wanted_both source 0 (sites_of source left) (sites_of source right) in
       let after : blanks_after 0 (nodes_at (sites_of source left)) ≡ blanks_after 0 (raw_nodes left) = ap (blanks_after 0) (scope_nodes source clean.names clean.types left (left_here source clean atoms_made item there)) in
-      let list_typed = typed_premises source clean.names clean.types scope all.scope all.here w s item.raw.left by.left 0 (left_here source clean atoms_made item there)
+      let list_typed = typed_atoms source clean.names clean.types scope all.scope all.here w s left (map (λ p. p.atom) by.left) 0 (left_here source clean atoms_made item there)
       (λ site inside. subst (λ sites. Contains sites site) (sym sites_both) (contains_left (sites_of source left) (sites_of source right) site inside))
       (λ wanted inside. subst (λ ws. Contains ws wanted) (sym wanted_all) (contains_left (wanted_from source 0 (sites_of source left)) _ wanted inside))
-      (subst (λ vars. ArePremisesBy source vars 0 item.raw.left by.left) by.vars_are by.left_is) in
+      (subst (λ vars. AreAtomsBy source vars 0 left (map (λ p. p.atom) by.left)) by.vars_are (premise_atoms source rule.vars 0 item.raw.left by.left by.left_is)) in
       let right_typed = typed_atoms source clean.names clean.types scope all.scope all.here w s right rule.right (blanks_after 0 (raw_nodes left)) (right_here source clean atoms_made item there)
       (λ site inside. subst (λ sites. Contains sites site) (sym sites_both) (contains_right (sites_of source left) (sites_of source right) site inside))
       (λ wanted inside. subst (λ ws. Contains ws wanted) (sym wanted_all) (contains_right (wanted_from source 0 (sites_of source left)) _ wanted (subst (λ b. Contains (wanted_from source b (sites_of source right)) wanted) (sym after) inside)))
@@ -592,21 +520,21 @@ module _ (source : Source) (clean : IsClean source) (atoms_made : AtomsMade sour
       record {
         kinds = ap length by.kinds_are ∙ kinds_size scope ∙ ap length (sym by.vars_are);
         premises = subst (λ ks. AllByRecursion (IsTyped (signature_of source) ks) (needed_of rule)) (sym by.kinds_are)
-            (subst (λ (ps : List PremiseTree). AllByRecursion (IsTyped (signature_of source) (kinds_of source scope)) (map (λ p. p.atom) ps)) (sym by.premises_are) (linear_part (IsTyped (signature_of source) (kinds_of source scope)) by.left list_typed));
+            (subst (λ (ps : List PremiseTree). AllByRecursion (IsTyped (signature_of source) (kinds_of source scope)) (map (λ p. p.atom) ps)) (sym by.premises_are) (part_all (IsTyped (signature_of source) (kinds_of source scope)) _ by.left list_typed));
         backs = subst (λ ks. AllByRecursion (IsTyped (signature_of source) ks) rule.backs) (sym by.kinds_are)
-            (subst (AllByRecursion (IsTyped (signature_of source) (kinds_of source scope))) (sym by.backs_are) (back_part (IsTyped (signature_of source) (kinds_of source scope)) by.left list_typed));
+            (subst (AllByRecursion (IsTyped (signature_of source) (kinds_of source scope))) (sym by.backs_are) (part_all (IsTyped (signature_of source) (kinds_of source scope)) _ by.left list_typed));
         right = subst (λ ks. AllByRecursion (IsTyped (signature_of source) ks) rule.right) (sym by.kinds_are) right_typed;
       }
 
   -- its predicates stand where they may
   pub rule_divided : (item : RuleItem) (rule : Rule) → Contains (rules_of source) item → IsRuleBy source item rule → IsDividedRule (signature_of source) rule
   rule_divided item rule there by =
-      let judged = judged_premises rule.vars 0 item.raw.left by.left (left_here source clean atoms_made item there) by.left_is in
+      let judged = judged_atoms rule.vars 0 (atoms_of item.raw.left) (map (λ p. p.atom) by.left) (left_here source clean atoms_made item there) (premise_atoms source rule.vars 0 item.raw.left by.left by.left_is) in
       record {
-        premises = subst (λ (ps : List PremiseTree). AllByRecursion (HasStatePredicate (signature_of source)) (map (λ p. p.atom) ps)) (sym by.premises_are) (divided_premises by.left judged);
+        premises = subst (λ (ps : List PremiseTree). AllByRecursion (HasStatePredicate (signature_of source)) (map (λ p. p.atom) ps)) (sym by.premises_are) (part_passing IsJudged _ _ by.left (λ p j is. of_state p.atom j (not_true (is_back source p.atom) is)) judged);
         facts = subst (AllByRecursion (λ (p : PremiseTree). is_fact (signature_of source) p.atom ≡ true → p.kept ≡ true)) (sym by.premises_are)
             (all_filter (λ (p : PremiseTree). is_fact (signature_of source) p.atom ≡ true → p.kept ≡ true) (λ p. not (is_back source p.atom)) by.left (kept_facts rule.vars 0 item.raw.left by.left by.left_is));
-        backs = subst (AllByRecursion (IsBackward (signature_of source))) (sym by.backs_are) (divided_backs by.left judged);
+        backs = subst (AllByRecursion (IsBackward (signature_of source))) (sym by.backs_are) (part_passing IsJudged _ _ by.left (λ p j is. backward_is p.atom j is) judged);
         right = right_of_state rule.vars _ (atoms_of item.raw.right) rule.right (right_at source clean atoms_made item there) (right_here source clean atoms_made item there) by.right_is;
       }
 

@@ -1,6 +1,6 @@
 use Rattle.cep_refusal.specs.declared.reason.Reason.TheVariants.{TooLong}
 use Rattle.cep_refusal.specs.First.{wrong}
-use Rattle.cep_ground.proofs.Refused.{refused_too_long}
+use Rattle.cep_ground.proofs.OneAnswer.{refused_too_long}
 use Rattle.cep_ground.proofs.length.too_long.Goals as goal
 
 pub returns : goal.returns

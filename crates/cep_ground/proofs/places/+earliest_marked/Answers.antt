@@ -1,6 +1,6 @@
 use Rattle.std.proofs.Common.{subst, false}
 use Rattle.cep_ground.specs.Earliest.{IsEarliest}
-use Rattle.cep_ground.proofs.Refused.{marked_step}
+use Rattle.cep_ground.proofs.OneAnswer.{marked_step}
 use Rattle.cep_ground.proofs.places.+earliest_marked.Goals as goal
 
 pub returns-in-len1-up-marks : goal.returns-in-len1-up-marks

@@ -1,8 +1,4 @@
-use Rattle.std.proofs.Common.{subst, refl, sym, ◌≡◌}
-use Rattle.std.specs.List.{AllByRecursion}
-use Rattle.cep_rule.specs.declared.parts.Parts.{Parts}
-use Rattle.cep_rule.specs.Groundness.{IsGrounded}
-use Rattle.cep_infer.specs.Meaning.{AreParts}
+use Rattle.std.proofs.Common.{refl}
 use Rattle.cep_ground.proofs.sealing.sealed.Goals as goal
 
 pub seal-requires : goal.seal-requires
@@ -11,13 +7,11 @@ seal-requires c =
     c.requires.bound c.requires.declared c.requires.grounded
 
 pub returns : goal.returns
-returns c =
-    let same : c.seal.result ≡ c.args.parts = c.seal.ensures in
-    record {
-      source = record { text = c.args.text.now; file = c.args.file.now };
-      text_is = refl;
-      clean = c.requires.clean;
-      declared = subst (AreParts (record { text = c.args.text.now; file = c.args.file.now })) (sym same) c.requires.declared;
-      bound = c.requires.bound;
-      grounded = subst (λ (p : Parts). AllByRecursion (IsGrounded p.clauses) p.rules) (sym same) c.requires.grounded;
-    }
+returns c = record {
+  source = record { text = c.args.text.now; file = c.args.file.now };
+  text_is = refl;
+  clean = c.requires.clean;
+  declared = rw c.seal.ensures c.requires.declared;
+  bound = c.requires.bound;
+  grounded = rw c.seal.ensures c.requires.grounded;
+}
