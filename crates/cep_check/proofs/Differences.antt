@@ -1,6 +1,6 @@
 -- The first difference of a listing and a state is one, and a log that is refused is not legal.
-use Rattle.std.proofs.Common.{◌≡◌, ◌⊎◌, inl, inr, ⊎_elim, ℕ, zero, suc, ◌-◌, ◌<◌, ◌≤◌, List, [], ◌∷◌, length, Some, refl, sym, ap, subst, ◌∙◌, arith, Less, Equal, Greater, None, take}
-use Rattle.std.specs.Prelude.{slice_get, Option, IfSome, IsSomeAnd}
+use Rattle.std.proofs.Common.{◌≡◌, ◌⊎◌, inl, inr, ⊎_elim, ℕ, zero, suc, ◌-◌, ◌<◌, ◌≤◌, List, [], ◌∷◌, length, Some, refl, sym, ap, subst, ◌∙◌, arith, Less, Equal, Greater, take}
+use Rattle.std.specs.Prelude.{slice_get, Option, IsSomeAnd}
 use Rattle.std.specs.Ordering.{ordering_reverse}
 use Rattle.std.specs.FinMap.{len-entries}
 use Rattle.std.proofs.lemmas.Cmp.{tied_itself}
@@ -33,9 +33,8 @@ use Rattle.cep_rule.specs.Offers.{offer_cmp}
 use Rattle.cep_rule.specs.Steps.{Spot, AreProofs, IsMachineStep, stage_after}
 use Rattle.cep_rule.specs.declared.offer.Offer.{Offer}
 use Rattle.cep_log.specs.declared.log.LogStep.{LogStep}
-use Rattle.cep_log.specs.declared.log.LogMid.{LogMid}
 use Rattle.cep_log.specs.declared.log.LogEnd.{LogEnd}
-use Rattle.cep_check.specs.declared.cause.Cause.TheVariants.{StartStage, StartState, OtherStage, NotContained, NotProved, TooHigh, NotQuiet, OverLimit, StageLine, MidState, NotEnded, EndState}
+use Rattle.cep_check.specs.declared.cause.Cause.TheVariants.{StartStage, StartState, OtherStage, NotContained, NotProved, TooHigh, NotQuiet, OverLimit, StageLine, MidState, EndState}
 use Rattle.std.specs.FinMap as finite
 pub use Rattle.cep_base.proofs.Options.{place_in}
 
@@ -60,18 +59,7 @@ module _ (laws : BagLaws) where
 
   -- what stands at a place or after it is not less than what is not greater than it
   not_below : (xs : List (AtomTree × ℕ)) → Rises xs → (place : ℕ) (x y : AtomTree) (n : ℕ) → slice_get xs place ≡ Some (y, n) → (x ≡ y) ⊎ (atom_cmp x y ≡ Less) → (j : ℕ) (a : AtomTree) (m : ℕ) → place ≤ j → slice_get xs j ≡ Some (a, m) → atom_cmp a x ≡ Less → ⊥
-  not_below xs rises place x y n at low j a m behind there less = ⊎_elim
-      (λ (after : place < j). not_itself a (laws.total.trans a y a below_y (rises place j y a n m after at there)))
-      (λ either. ⊎_elim
-      (λ (here : place ≡ j).
-      let same : y ≡ a = ap (λ (e : AtomTree × ℕ). e.0) (some_same (y, n) (a, m) (sym at ∙ ap (slice_get xs) here ∙ there)) in
-      not_itself a (subst (λ b. atom_cmp a b ≡ Less) same below_y))
-      (λ (before : j < place). absurd (omega arith))
-      either)
-      (three_ways place j)
-    where
-      below_y : atom_cmp a y ≡ Less
-      below_y = ⊎_elim (λ same. subst (λ b. atom_cmp a b ≡ Less) same less) (λ under. laws.total.trans a x y less under) low
+  not_below xs rises place x y n at low j a m behind there less = grind (arith, not_itself, some_same, three_ways place j, laws.total.trans, rises place j y a n m)
 
   -- what is less than what stands at a place does not stand there or after it
   not_from : (xs : List (AtomTree × ℕ)) → Rises xs → (place : ℕ) (x y : AtomTree) (n : ℕ) → slice_get xs place ≡ Some (y, n) → atom_cmp x y ≡ Less → (j : ℕ) (m : ℕ) → place ≤ j → slice_get xs j ≡ Some (x, m) → ⊥
@@ -161,7 +149,7 @@ module _ (laws : BagLaws) where
 
     -- one atom with one count
     pub one_line : (x y : AtomTree) (m n : ℕ) → slice_get listing place ≡ Some (x, m) → slice_get (finite.entries state) place ≡ Some (y, n) → atom_cmp x y ≡ Equal → m ≡ n → Agree place listing state
-    one_line x y m n at at' tied same = at ∙ ap Some (ap (λ z. (z, m)) (laws.ties x y tied) ∙ ap (λ k. (y, k)) same) ∙ sym at'
+    one_line x y m n at at' tied same = grind (arith, laws.ties x y)
 
 -- lists that agree place by place are one
 pub same_lists : (xs ys : List (AtomTree × ℕ)) (n : ℕ) → length xs ≤ n → length ys ≤ n → ((place : ℕ) → place < n → slice_get xs place ≡ slice_get ys place) → xs ≡ ys
@@ -209,17 +197,11 @@ NeedsLeft = (signature : Signature) (rule : Rule) (values : List Tree) (old new 
 module _ (laws : BagLaws) (one : LeadsToOne) (needs : NeedsLeft) (program : Parts) where
   -- the listing that is a state's says its counts
   says_count : (state : Multiset) (a : AtomTree) (n : ℕ) → ListsCount (finite.entries state) a n → n ≡ count_of state a
-  says_count state a n says = ⊎_elim
-      (λ there. let at = place_in (finite.entries state) (a, n) there in sym (laws.entry_counted state at.0 a n at.1))
-      (λ none. none.0 ∙ no_entry laws state a (λ j m at. none.1 m (contains_at (finite.entries state) j (a, m) at)))
-      says
+  says_count state a n (inl there) = let at = place_in (finite.entries state) (a, n) there in sym (laws.entry_counted state at.0 a n at.1)
+  says_count state a n (inr none) = none.0 ∙ no_entry laws state a (λ j m at. none.1 m (contains_at (finite.entries state) j (a, m) at))
 
   no_difference : (listing : List (AtomTree × ℕ)) (state : Multiset) (atom : AtomTree) (said is : ℕ) → listing ≡ finite.entries state → IsFirstDifference listing state atom said is → ⊥
-  no_difference listing state atom said is same differs =
-      differs.differ (says_count state atom said (subst (λ entries. ListsCount entries atom said) same differs.listed) ∙ sym differs.there)
-
-  groups_apart : {P : Type 0} (group stage : ℕ) → group ≡ own_group stage → group ≡ leaving_group stage → P
-  groups_apart group stage own leaving = absurd (omega arith)
+  no_difference listing state atom said is same differs = differs.differ (says_count state atom said (rw same at differs.listed) ∙ sym differs.there)
 
   -- a step with a cause is not legal
   pub step_clash : (height : ℕ) (old new : Spot) (rule : Rule) (step : LogStep) (cause : Cause) → slice_get program.rules step.offer.rule ≡ Some rule → IsStepCause program height old rule step cause → IsLegalStep program height old new step → ⊥
@@ -236,18 +218,14 @@ module _ (laws : BagLaws) (one : LeadsToOne) (needs : NeedsLeft) (program : Part
       by (NotContained atom have need) comes = omega (arith, needs program.signature rule step.offer.values old.state new.state machine.steps.step (atom_of atom), comes.1.wanted, comes.1.there, comes.1.lacks)
       by (NotProved place) comes = comes.1.3 (proofs_at program height step.proofs (full_instances step.offer.values rule.backs) comes.1.2.before comes.1.0 comes.1.1 machine.proved comes.1.2.derivation comes.1.2.premise).0
       by (TooHigh place high) comes = omega (arith, (proofs_at program height step.proofs (full_instances step.offer.values rule.backs) comes.1.2.before comes.1.0 comes.1.1 machine.proved comes.1.2.derivation comes.1.2.premise).1, comes.1.4, comes.1.5)
-      by (NotQuiet offer) comes = ⊎_elim
-          (λ own. groups_apart rule.group old.stage own comes.1)
-          (λ leaving. leaving.1 (offer, comes.2.is))
-          machine.in_turn
+      by (NotQuiet offer) comes = grind (arith, machine.in_turn, comes.1, comes.2.is)
       by (OverLimit Atom) comes = comes.1 machine.steps.fit
       by (OverLimit State) comes = comes.1.1.2 (subst Fits (one program.signature rule step.offer.values old.state new.state comes.1.1.0 machine.steps.step comes.1.1.1) machine.steps.fits)
       by (StageLine said is) comes = comes.3 (some_same said is (sym comes.1 ∙ legal.stage ∙ ap (λ (r : Rule). r.next) same ∙ comes.2))
       by (MidState line atom said is) comes =
           let mid = comes.2 in
-          let listed : mid.0.state ≡ finite.entries new.state = subst (λ (found : Option LogMid). IfSome found (λ (mid : LogMid). mid.state ≡ finite.entries new.state)) mid.1 legal.mid in
           let after : new.state ≡ comes.0 = one program.signature rule step.offer.values old.state new.state comes.0 machine.steps.step comes.1.within.leads in
-          no_difference mid.0.state comes.0 (atom_of atom) said is (listed ∙ ap finite.entries after) mid.3
+          no_difference mid.0.state comes.0 (atom_of atom) said is ((rw mid.1 at legal.mid) ∙ ap finite.entries after) mid.3
       by cause comes = absurd comes
 
   -- a legal step leads to one spot
@@ -261,18 +239,14 @@ module _ (laws : BagLaws) (one : LeadsToOne) (needs : NeedsLeft) (program : Part
 
   -- an end with a cause is not legal
   pub end_clash : (height : ℕ) (last : Spot) (end : Option LogEnd) (cause : Cause) → IsEndCause program height last end cause → IsSomeAnd end (IsLegalEnd program height last) → ⊥
-  end_clash height last None NotEnded comes legal = legal
-  end_clash height last None cause comes legal = comes
   end_clash height last (Some end) (NotQuiet offer) comes legal = grind (arith, legal.quiet, comes.0, comes.1)
   end_clash height last (Some end) (EndState atom said is) comes legal = no_difference end.state last.state (atom_of atom) said is legal.state comes.1
-  end_clash height last (Some end) cause comes legal = comes
+  end_clash height last end cause comes legal = grind arith
 
   from_clash : (log : Log) (steps : List LogStep) (old last : Spot) (line : ℕ) (cause : Cause) → IsRefusedFrom program log old steps line cause → AreLegalSteps program log.height steps old last → IsSomeAnd log.end (IsLegalEnd program log.height last) → ⊥
-  from_clash log [] old last line cause refused legal ending = end_clash log.height old log.end cause refused.1 (subst (λ (spot : Spot). IsSomeAnd log.end (IsLegalEnd program log.height spot)) legal ending)
-  from_clash log (step ∷ steps) old last line cause refused legal ending = ⊎_elim
-      (λ here. step_clash log.height old legal.0 here.1.0 step cause here.1.1 here.1.2 legal.1)
-      (λ later. from_clash log steps later.0 last line cause later.2 (subst (λ (spot : Spot). AreLegalSteps program log.height steps spot last) (one_spot log.height old legal.0 later.0 step legal.1 later.1) legal.2) ending)
-      refused
+  from_clash log [] old last line cause refused legal ending = end_clash log.height old log.end cause refused.1 (rw legal at ending)
+  from_clash log (step ∷ steps) old last line cause (inl here) legal ending = step_clash log.height old legal.0 here.1.0 step cause here.1.1 here.1.2 legal.1
+  from_clash log (step ∷ steps) old last line cause (inr later) legal ending = from_clash log steps later.0 last line cause later.2 (rw (one_spot log.height old legal.0 later.0 step legal.1 later.1) at legal.2) ending
 
   pub start_clash : (log : Log) (cause : Cause) → IsStartCause program log cause → log.stage ≡ program.start_stage → log.start ≡ finite.entries program.start → ⊥
   start_clash log (StartStage said is) comes stage start = comes.2 (comes.0 ∙ stage ∙ sym comes.1)
@@ -298,24 +272,14 @@ pub record OffersOrdered : Type 0 where
 
 -- there is one first offer
 pub first_offer_once : OffersOrdered → (program : Parts) (height : ℕ) (state : Multiset) (group : ℕ) (one two : Offer) → IsFirstOffer program height state group one → IsFirstOffer program height state group two → one ≡ two
-first_offer_once order program height state group one two first first' = elim (offer_cmp one two) as (λ o. offer_cmp one two ≡ o → one ≡ two) [
-  | Less ↦ λ e. absurd (first'.none_before one first.is e)
-  | Equal ↦ λ e. order.ties one two e
-  | Greater ↦ λ e. absurd (first.none_before two first'.is (order.total.antisymm two one ∙ ap ordering_reverse e))
-] refl
+first_offer_once order program height state group one two first first' = grind (arith, first'.none_before one first.is, first.none_before two first'.is, order.ties, order.total.antisymm)
 
 -- one first asked offer
 pub first_asked_once : OffersOrdered → (program : Parts) (height : ℕ) (spot : Spot) (one two : Offer) → IsFirstAsked program height spot one → IsFirstAsked program height spot two → one ≡ two
-first_asked_once order program height spot one two asked asked' = ⊎_elim
-    (λ own. ⊎_elim
-    (λ own'. first_offer_once order program height spot.state (own_group spot.stage) one two own own')
-    (λ leaving'. absurd (leaving'.0 (one, own.is)))
-    asked')
-    (λ leaving. ⊎_elim
-    (λ own'. absurd (leaving.0 (two, own'.is)))
-    (λ leaving'. first_offer_once order program height spot.state (leaving_group spot.stage) one two leaving.1 leaving'.1)
-    asked')
-    asked
+first_asked_once order program height spot one two (inl own) (inl own') = first_offer_once order program height spot.state (own_group spot.stage) one two own own'
+first_asked_once order program height spot one two (inr leaving) (inr leaving') = first_offer_once order program height spot.state (leaving_group spot.stage) one two leaving.1 leaving'.1
+first_asked_once order program height spot one two (inl own) (inr leaving') = absurd (leaving'.0 (one, own.is))
+first_asked_once order program height spot one two (inr leaving) (inl own') = absurd (leaving.0 (two, own'.is))
 
 -- The derivation at a premise is none that proves it within the height.
 abbrev pub Fails : Parts → ℕ → ProofTree → AtomTree → Type 0
@@ -327,13 +291,7 @@ not_later program height proofs goals place place' proof proof' goal goal' at at
 
 -- the first that fails stands at one place
 pub fails_once : (program : Parts) (height : ℕ) (proofs : List ProofTree) (goals : List AtomTree) (place place' : ℕ) (proof proof' : ProofTree) (goal goal' : AtomTree) (at : IsAtPremise program height proofs goals place proof goal) (at' : IsAtPremise program height proofs goals place' proof' goal') → Fails program height proof goal → Fails program height proof' goal' → at.before ≡ at'.before
-fails_once program height proofs goals place place' proof proof' goal goal' at at' fails fails' = ⊎_elim
-    (λ before. absurd (not_later program height proofs goals place place' proof proof' goal goal' at at' fails before))
-    (λ either. ⊎_elim
-    (λ same. same)
-    (λ behind. absurd (not_later program height proofs goals place' place proof' proof goal' goal at' at fails' behind))
-    either)
-    (three_ways at.before at'.before)
+fails_once program height proofs goals place place' proof proof' goal goal' at at' fails fails' = grind (arith, three_ways at.before at'.before, not_later program height proofs goals place place' proof proof' goal goal' at at' fails, not_later program height proofs goals place' place proof' proof goal' goal at' at fails')
 
 module _ (laws : BagLaws) where
   three_atoms : (a b : AtomTree) → (atom_cmp a b ≡ Less) ⊎ ((a ≡ b) ⊎ (atom_cmp b a ≡ Less))
@@ -341,19 +299,13 @@ module _ (laws : BagLaws) where
 
   -- a listing says one count of an atom
   says_once : (listing : List (AtomTree × ℕ)) → AtomsRise listing → (a : AtomTree) (m n : ℕ) → ListsCount listing a m → ListsCount listing a n → m ≡ n
-  says_once listing rising a m n says says' = ⊎_elim
-      (λ there. ⊎_elim
-      (λ there'. by (place_in listing (a, m) there) (place_in listing (a, n) there'))
-      (λ none'. absurd (none'.1 m there))
-      says')
-      (λ none. ⊎_elim
-      (λ there'. absurd (none.1 n there'))
-      (λ none'. none.0 ∙ sym none'.0)
-      says')
-      says
-    where
-      by : (i : ℕ) × (slice_get listing i ≡ Some (a, m)) → (j : ℕ) × (slice_get listing j ≡ Some (a, n)) → m ≡ n
-      by at at' = grind (arith, not_itself, listing_rises, some_same, three_ways)
+  says_once listing rising a m n (inl there) (inl there') =
+      let at = place_in listing (a, m) there in
+      let at' = place_in listing (a, n) there' in
+      grind (arith, not_itself, listing_rises, some_same, three_ways)
+  says_once listing rising a m n (inl there) (inr none') = absurd (none'.1 m there)
+  says_once listing rising a m n (inr none) (inl there') = absurd (none.1 n there')
+  says_once listing rising a m n (inr none) (inr none') = none.0 ∙ sym none'.0
 
   -- no difference before the first
   no_earlier : (listing : List (AtomTree × ℕ)) → AtomsRise listing → (state : Multiset) (a b : AtomTree) (said said' is is' : ℕ) → IsFirstDifference listing state a said is → IsFirstDifference listing state b said' is' → atom_cmp a b ≡ Less → ⊥
@@ -361,17 +313,9 @@ module _ (laws : BagLaws) where
 
   -- one first difference
   pub difference_once : (listing : List (AtomTree × ℕ)) → AtomsRise listing → (state : Multiset) (a b : AtomTree) (said said' is is' : ℕ) → IsFirstDifference listing state a said is → IsFirstDifference listing state b said' is' → (a ≡ b) × (said ≡ said') × (is ≡ is')
-  difference_once listing rising state a b said said' is is' first first' = ⊎_elim
-      (λ less. absurd (no_earlier listing rising state a b said said' is is' first first' less))
-      (λ either. ⊎_elim
-      (λ (same : a ≡ b). (
-        same,
-        says_once listing rising b said said' (subst (λ c. ListsCount listing c said) same first.listed) first'.listed,
-        first.there ∙ ap (count_of state) same ∙ sym first'.there,
-      ))
-      (λ less. absurd (no_earlier listing rising state b a said' said is' is first' first less))
-      either)
-      (three_atoms a b)
+  difference_once listing rising state a b said said' is is' first first' =
+      let same : a ≡ b = grind (arith, three_atoms a b, no_earlier listing rising state a b said said' is is' first first', no_earlier listing rising state b a said' said is' is first' first) in
+      (same, says_once listing rising b said said' (rw same at first.listed) first'.listed, first.there ∙ ap (count_of state) same ∙ sym first'.there)
 
   lacks_no_earlier : (needed state : Multiset) (a b : AtomTree) (have have' need need' : ℕ) → IsFirstLack needed state a have need → IsFirstLack needed state b have' need' → atom_cmp a b ≡ Less → ⊥
   lacks_no_earlier needed state a b have have' need need' first first' less = grind (arith, first'.before, first.wanted, first.there, first.lacks)

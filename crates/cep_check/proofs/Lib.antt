@@ -1,4 +1,3 @@
-pub mod Parted
 pub mod Options
 pub mod Verdicts
 pub mod Differences

@@ -1,5 +1,5 @@
 -- A log, and a step of it, are refused for one cause at one line.
-use Rattle.std.proofs.Common.{◌≡◌, ◌==◌, false, eq-eqb, ℕ, zero, suc, ◌+◌, ◌-◌, ◌<◌, List, ◌++◌, codes, decimal, Option, sym, ap, subst, ◌∙◌, arith, ⊎_elim, [], ◌∷◌, Some, None, refl}
+use Rattle.std.proofs.Common.{◌≡◌, ℕ, zero, suc, ◌+◌, ◌-◌, ◌<◌, List, ◌++◌, codes, decimal, Option, sym, ap, subst, ◌∙◌, arith, inl, inr, [], ◌∷◌, Some, None, refl}
 use Rattle.std.specs.Prelude.{slice_get, IfSome}
 use Rattle.std.specs.List.{AllByRecursion}
 use Rattle.cep_base.proofs.Lists.{some_same}
@@ -12,8 +12,7 @@ use Rattle.cep_rule.specs.declared.parts.Parts.{Parts}
 use Rattle.cep_rule.specs.declared.offer.Offer.{Offer}
 use Rattle.cep_rule.specs.Instances.{full_instances, left_of}
 use Rattle.cep_rule.specs.Stages.{own_group}
-use Rattle.cep_rule.specs.Derivations.{ProofTree, Proves, proof_height}
-use Rattle.cep_rule.specs.State.{Fits}
+use Rattle.cep_rule.specs.Derivations.{proof_height}
 use Rattle.cep_rule.specs.Steps.{Spot, MakesFit, start_spot}
 use Rattle.cep_log.specs.declared.log.LogStep.{LogStep}
 use Rattle.cep_log.specs.declared.log.LogMid.{LogMid}
@@ -25,8 +24,8 @@ use Rattle.cep_lines.specs.declared.end_word.EndWord.TheVariants.{Quiet}
 use Rattle.cep_check.specs.declared.cause.Cause.{Cause}
 use Rattle.cep_check.specs.Telling.{stages_text, counts_text, cause_text}
 use Rattle.cep_check.specs.declared.cause.Cause.TheVariants.{StartStage, StartState, OtherStage, NotContained, NotProved, TooHigh, NotQuiet, OverLimit, StageLine, MidState, NotEnded, EndState}
-use Rattle.cep_check.specs.Causes.{IsOfStage, IsFirstDifference, CanTake, IsProvedStep, IsInTurn, IsWithinLimits, IsStaged, IsStepCause, cause_line, IsFirstAsked, IsTrulyQuiet, IsStartCause, IsEndCause, IsRefusedFrom, IsLogRefused}
-use Rattle.cep_check.proofs.Differences.{three_ways, OffersOrdered, first_offer_once, Fails, fails_once, difference_once, lack_once, first_asked_once, LeadsToOne, NeedsLeft, proofs_at, step_clash, one_spot, start_clash}
+use Rattle.cep_check.specs.Causes.{IsOfStage, CanTake, IsProvedStep, IsInTurn, IsWithinLimits, IsStaged, IsStepCause, cause_line, IsFirstAsked, IsTrulyQuiet, IsStartCause, IsEndCause, IsRefusedFrom, IsLogRefused}
+use Rattle.cep_check.proofs.Differences.{three_ways, OffersOrdered, first_offer_once, fails_once, difference_once, lack_once, first_asked_once, LeadsToOne, NeedsLeft, proofs_at, step_clash, one_spot, start_clash}
 
 -- A step is refused for one cause at one line.
 
@@ -99,12 +98,9 @@ module _ (laws : BagLaws) (order : OffersOrdered) (one : LeadsToOne) (needs : Ne
     fails_next (TooHigh place high) comes passed = omega (arith, (proofs_at program height step.proofs goals comes.1.2.before comes.1.0 comes.1.1 passed.proved comes.1.2.derivation comes.1.2.premise).1, comes.1.4, comes.1.5)
     fails_next (NotQuiet offer) comes passed = passed.quiet comes.1 (offer, comes.2.is)
     fails_next (OverLimit Atom) comes passed = comes.1 passed.1
-    fails_next (OverLimit State) comes passed =
-        let over = comes.1.1 in
-        over.2 (subst Fits (one program.signature rule step.offer.values old.state passed.0 over.0 passed.1.leads over.1) passed.1.fits)
+    fails_next (OverLimit State) comes passed = comes.1.1.2 (rw (one program.signature rule step.offer.values old.state passed.0 comes.1.1.0 passed.1.leads comes.1.1.1) at passed.1.fits)
     fails_next (StageLine said is) comes passed = comes.3 (some_same said is (sym comes.1 ∙ passed.1.stage ∙ comes.2))
-    fails_next (MidState line atom said is) comes passed = passed
-    fails_next cause comes passed = absurd comes
+    fails_next cause comes passed = grind arith
 
     no_fewer : (cause other : Cause) → IsStepCause program height old rule step cause → IsStepCause program height old rule step other → tests cause < tests other → ⊥
     no_fewer cause other comes comes' fewer =
@@ -113,106 +109,71 @@ module _ (laws : BagLaws) (order : OffersOrdered) (one : LeadsToOne) (needs : Ne
     as_many_tests : (cause other : Cause) → IsStepCause program height old rule step cause → IsStepCause program height old rule step other → tests cause ≡ tests other
     as_many_tests cause other comes comes' = grind (arith, no_fewer cause other comes comes', no_fewer other cause comes' comes, three_ways (tests cause) (tests other))
 
-    other_count : {P : Type 0} (n m : ℕ) → (n == m) ≡ false → n ≡ m → P
-    other_count n m differ same = grind (arith, eq-eqb)
-
-    unproved_fails : (proof : ProofTree) (goal : AtomTree) → (¬ Proves program proof goal) → Fails program height proof goal
-    unproved_fails proof goal not = λ ok. not ok.0
-
-    high_fails : (proof : ProofTree) (goal : AtomTree) (high : ℕ) → high ≡ proof_height proof → height < high → Fails program height proof goal
-    high_fails proof goal high is above = λ ok. let low = ok.1 in omega arith
-
     -- what is not proved is not too high
     proved_or_high : {P : Type 0} (place place' high : ℕ) (comes : IsStepCause program height old rule step (NotProved place)) (comes' : IsStepCause program height old rule step (TooHigh place' high)) → P
     proved_or_high place place' high comes comes' =
-        let here = fails_once program height step.proofs goals place place' comes.1.0 comes'.1.0 comes.1.1 comes'.1.1 comes.1.2 comes'.1.2 (unproved_fails comes.1.0 comes.1.1 comes.1.3) (high_fails comes'.1.0 comes'.1.1 high comes'.1.4 comes'.1.5) in
+        let here = fails_once program height step.proofs goals place place' comes.1.0 comes'.1.0 comes.1.1 comes'.1.1 comes.1.2 comes'.1.2 (λ ok. comes.1.3 ok.0) (λ ok. omega (arith, ok.1, comes'.1.4, comes'.1.5)) in
         grind (arith, here, some_same, comes'.1.2.derivation, step.proofs, comes.1.2.derivation, comes'.1.2.premise, comes.1.2.premise, comes.1.3, comes'.1.3)
-
-    -- two causes of a step that pass as many tests are told alike
-    told_alike : (cause other : Cause) → IsStepCause program height old rule step cause → IsStepCause program height old rule step other → tests cause ≡ tests other → (tests cause ≡ 7 → ⊥) → AreToldAlike program cause other
-    told_alike (OtherStage number) (OtherStage number') comes comes' same apart = ap (λ n. codes "OtherStage " ++ offer_name (slice_get program.rules n)) (comes.0 ∙ sym comes'.0)
-    told_alike (NotContained atom have need) (NotContained atom' have' need') comes comes' same apart =
-        counts_alike (codes "NotContained have ") (codes " need ") have have' need need' (atom_of atom) (atom_of atom')
-        (lack_once laws (left_of program.signature rule step.offer.values) old.state (atom_of atom) (atom_of atom') have have' need need' comes.1 comes'.1)
-    told_alike (NotProved place) (NotProved place') comes comes' same apart =
-        let at = comes.1.2 in
-        let at' = comes'.1.2 in
-        let here = fails_once program height step.proofs goals place place' comes.1.0 comes'.1.0 comes.1.1 comes'.1.1 at at' (unproved_fails comes.1.0 comes.1.1 comes.1.3) (unproved_fails comes'.1.0 comes'.1.1 comes'.1.3) in
-        ap (λ n. codes "NotProved " ++ decimal n) (at.counted ∙ ap (λ n. n + 1) here ∙ sym at'.counted)
-    told_alike (NotProved place) (TooHigh place' high') comes comes' same apart = proved_or_high place place' high' comes comes'
-    told_alike (TooHigh place high) (NotProved place') comes comes' same apart = proved_or_high place' place high comes' comes
-    told_alike (TooHigh place high) (TooHigh place' high') comes comes' same apart =
-        let at = comes.1.2 in
-        let at' = comes'.1.2 in
-        let here = fails_once program height step.proofs goals place place' comes.1.0 comes'.1.0 comes.1.1 comes'.1.1 at at' (high_fails comes.1.0 comes.1.1 high comes.1.4 comes.1.5) (high_fails comes'.1.0 comes'.1.1 high' comes'.1.4 comes'.1.5) in
-        let one_proof : comes.1.0 ≡ comes'.1.0 = some_same comes.1.0 comes'.1.0 (sym at.derivation ∙ ap (slice_get step.proofs) here ∙ at'.derivation) in
-        ap (λ n. codes "TooHigh " ++ decimal n ++ codes " " ++ decimal high) (at.counted ∙ ap (λ n. n + 1) here ∙ sym at'.counted)
-        ∙ ap (λ n. codes "TooHigh " ++ decimal place' ++ codes " " ++ decimal n) (comes.1.4 ∙ ap proof_height one_proof ∙ sym comes'.1.4)
-    told_alike (NotQuiet offer) (NotQuiet offer') comes comes' same apart = ap (λ o. codes "NotQuiet " ++ offer_text program o) (first_offer_once order program height old.state (own_group old.stage) offer offer' comes.2 comes'.2)
-    told_alike (OverLimit Atom) (OverLimit Atom) comes comes' same apart = refl
-    told_alike (OverLimit State) (OverLimit State) comes comes' same apart = refl
-    told_alike (StageLine said is) (StageLine said' is') comes comes' same apart = stages_alike (codes "StageLine said ") said said' is is' (some_same said said' (sym comes.1 ∙ comes'.1)) (some_same is is' (sym comes.2 ∙ comes'.2))
-    told_alike (MidState line atom said is) other comes comes' same apart = absurd (apart refl)
-    told_alike (StartStage said is) other comes comes' same apart = absurd comes
-    told_alike (StartState atom said is) other comes comes' same apart = absurd comes
-    told_alike NotEnded other comes comes' same apart = absurd comes
-    told_alike (EndState atom said is) other comes comes' same apart = absurd comes
-    told_alike cause (OverLimit Atom) comes comes' same apart = other_count (tests cause) 4 refl same
-    told_alike cause (OverLimit State) comes comes' same apart = other_count (tests cause) 5 refl same
-    told_alike cause other comes comes' same apart = other_count (tests cause) (tests other) refl same
-
-    -- the line of every cause but that of a listing is that of the step
-    own_line : (cause : Cause) → (tests cause ≡ 7 → ⊥) → step.line ≡ cause_line step cause
-    own_line cause other = grind arith
 
     -- Two causes are told alike, at one line.
     abbrev pub AreAlike : Cause → Cause → Type 0
     AreAlike one two = (cause_line step one ≡ cause_line step two) × AreToldAlike program one two
 
     module _ (listing : IfSome step.mid (λ (mid : LogMid). IsListing program.signature mid.state)) where
-      both_mid : (line line' : ℕ) (atom atom' : _) (said said' is is' : ℕ) → IsStepCause program height old rule step (MidState line atom said is) → IsStepCause program height old rule step (MidState line' atom' said' is') → AreAlike (MidState line atom said is) (MidState line' atom' said' is')
-      both_mid line line' atom atom' said said' is is' comes comes' =
+      -- two causes of a step that pass as many tests
+      tests_alike : (cause other : Cause) → IsStepCause program height old rule step cause → IsStepCause program height old rule step other → tests cause ≡ tests other → AreAlike cause other
+      tests_alike (OtherStage number) (OtherStage number') comes comes' same = (refl, ap (λ n. codes "OtherStage " ++ offer_name (slice_get program.rules n)) (comes.0 ∙ sym comes'.0))
+      tests_alike (NotContained atom have need) (NotContained atom' have' need') comes comes' same = (
+        refl,
+        counts_alike (codes "NotContained have ") (codes " need ") have have' need need' (atom_of atom) (atom_of atom')
+            (lack_once laws (left_of program.signature rule step.offer.values) old.state (atom_of atom) (atom_of atom') have have' need need' comes.1 comes'.1),
+      )
+      tests_alike (NotProved place) (NotProved place') comes comes' same =
+          let at = comes.1.2 in
+          let at' = comes'.1.2 in
+          let here = fails_once program height step.proofs goals place place' comes.1.0 comes'.1.0 comes.1.1 comes'.1.1 at at' (λ ok. comes.1.3 ok.0) (λ ok. comes'.1.3 ok.0) in
+          (refl, ap (λ n. codes "NotProved " ++ decimal n) (omega (arith, here, at.counted, at'.counted)))
+      tests_alike (NotProved place) (TooHigh place' high') comes comes' same = proved_or_high place place' high' comes comes'
+      tests_alike (TooHigh place high) (NotProved place') comes comes' same = proved_or_high place' place high comes' comes
+      tests_alike (TooHigh place high) (TooHigh place' high') comes comes' same =
+          let at = comes.1.2 in
+          let at' = comes'.1.2 in
+          let here = fails_once program height step.proofs goals place place' comes.1.0 comes'.1.0 comes.1.1 comes'.1.1 at at' (λ ok. omega (arith, ok.1, comes.1.4, comes.1.5)) (λ ok. omega (arith, ok.1, comes'.1.4, comes'.1.5)) in
+          let one_proof : comes.1.0 ≡ comes'.1.0 = some_same comes.1.0 comes'.1.0 (sym at.derivation ∙ ap (slice_get step.proofs) here ∙ at'.derivation) in
+          let places : place ≡ place' = omega (arith, here, at.counted, at'.counted) in
+          let heights : high ≡ high' = comes.1.4 ∙ ap proof_height one_proof ∙ sym comes'.1.4 in
+          (refl, rw (places, heights) refl)
+      tests_alike (NotQuiet offer) (NotQuiet offer') comes comes' same = (refl, ap (λ o. codes "NotQuiet " ++ offer_text program o) (first_offer_once order program height old.state (own_group old.stage) offer offer' comes.2 comes'.2))
+      tests_alike (OverLimit Atom) (OverLimit Atom) comes comes' same = (refl, refl)
+      tests_alike (OverLimit State) (OverLimit State) comes comes' same = (refl, refl)
+      tests_alike (StageLine said is) (StageLine said' is') comes comes' same = (refl, stages_alike (codes "StageLine said ") said said' is is' (some_same said said' (sym comes.1 ∙ comes'.1)) (some_same is is' (sym comes.2 ∙ comes'.2)))
+      tests_alike (MidState line atom said is) (MidState line' atom' said' is') comes comes' same =
           let one_mid = comes.2 in
           let other = comes'.2 in
           let same : one_mid.0 ≡ other.0 = some_same one_mid.0 other.0 (sym one_mid.1 ∙ other.1) in
           let after : comes.0 ≡ comes'.0 = one program.signature rule step.offer.values old.state comes.0 comes'.0 comes.1.within.leads comes'.1.within.leads in
-          let lists : IsListing program.signature other.0.state = subst (λ (found : Option LogMid). IfSome found (λ (mid : LogMid). IsListing program.signature mid.state)) other.1 listing in
-          let first : IsFirstDifference other.0.state comes'.0 (atom_of atom) said is =
-          subst (λ (mid : LogMid). IsFirstDifference mid.state comes'.0 (atom_of atom) said is) same
-          (subst (λ (state : Multiset). IsFirstDifference one_mid.0.state state (atom_of atom) said is) after one_mid.3) in (
+          let lists : IsListing program.signature other.0.state = rw other.1 at listing in (
             one_mid.2 ∙ ap (λ (mid : LogMid). mid.line) same ∙ sym other.2,
             counts_alike (codes "MidState said ") (codes " is ") said said' is is' (atom_of atom) (atom_of atom')
-                (difference_once laws other.0.state lists.rising comes'.0 (atom_of atom) (atom_of atom') said said' is is' first other.3),
+                (difference_once laws other.0.state lists.rising comes'.0 (atom_of atom) (atom_of atom') said said' is is' (rw (same, after) at one_mid.3) other.3),
           )
+      tests_alike cause other comes comes' same = grind arith
 
       pub step_alike : (cause other : Cause) → IsStepCause program height old rule step cause → IsStepCause program height old rule step other → AreAlike cause other
-      step_alike cause other comes comes' = by cause other comes comes' (as_many_tests cause other comes comes')
-        where
-          by : (cause other : Cause) → IsStepCause program height old rule step cause → IsStepCause program height old rule step other → tests cause ≡ tests other → AreAlike cause other
-          by (MidState line atom said is) (MidState line' atom' said' is') comes comes' same = both_mid line line' atom atom' said said' is is' comes comes'
-          by (MidState line atom said is) other comes comes' same = grind (arith, same)
-          by (OverLimit Atom) other comes comes' same = (own_line other (λ seven. other_count 4 7 refl (same ∙ seven)), told_alike (OverLimit Atom) other comes comes' same (other_count 4 7 refl))
-          by (OverLimit State) other comes comes' same = (own_line other (λ seven. other_count 5 7 refl (same ∙ seven)), told_alike (OverLimit State) other comes comes' same (other_count 5 7 refl))
-          by cause other comes comes' same =
-              let apart : tests cause ≡ 7 → ⊥ = other_count (tests cause) 7 refl in
-              (own_line other (λ seven. apart (same ∙ seven)), told_alike cause other comes comes' same apart)
+      step_alike cause other comes comes' = tests_alike cause other comes comes' (as_many_tests cause other comes comes')
 
 -- A log is refused for one cause at one line.
 
 module _ (laws : BagLaws) (order : OffersOrdered) (one : LeadsToOne) (needs : NeedsLeft) (program : Parts) where
   start_alike : (log : Log) → IsLogOf program log → (cause other : Cause) → IsStartCause program log cause → IsStartCause program log other → AreToldAlike program cause other
   start_alike log of (StartStage said is) (StartStage said' is') comes comes' = stages_alike laws order one needs program (codes "StartStage said ") said said' is is' (comes.0 ∙ sym comes'.0) (comes.1 ∙ sym comes'.1)
-  start_alike log of (StartStage said is) (StartState atom' said' is') comes comes' = absurd (comes.2 (comes.0 ∙ comes'.0 ∙ sym comes.1))
-  start_alike log of (StartState atom said is) (StartStage said' is') comes comes' = absurd (comes'.2 (comes'.0 ∙ comes.0 ∙ sym comes'.1))
   start_alike log of (StartState atom said is) (StartState atom' said' is') comes comes' =
       counts_alike laws order one needs program (codes "StartState said ") (codes " is ") said said' is is' (atom_of atom) (atom_of atom')
       (difference_once laws log.start of.start.rising program.start (atom_of atom) (atom_of atom') said said' is is' comes.1 comes'.1)
-  start_alike log of (StartStage said is) other comes comes' = absurd comes'
-  start_alike log of (StartState atom said is) other comes comes' = absurd comes'
-  start_alike log of cause other comes comes' = absurd comes
+  start_alike log of cause other comes comes' = grind arith
 
   asked_clash : (height : ℕ) (last : Spot) (end : LogEnd) (offer : Offer) → end.word ≡ Quiet → IsFirstAsked program height last offer → IsTrulyQuiet program height last end → ⊥
-  asked_clash height last end offer quiet asked truly = ⊎_elim (λ own. (truly quiet).0 (offer, own.is)) (λ leaving. (truly quiet).1 (offer, leaving.1.is)) asked
+  asked_clash height last end offer quiet asked truly = grind (arith, asked, truly quiet)
 
   ends_rise : (end : Option LogEnd) → IfSome end (λ e. IsListing program.signature e.state) → IfSome end (λ e. AtomsRise e.state)
   ends_rise end is = grind arith
@@ -225,39 +186,23 @@ module _ (laws : BagLaws) (order : OffersOrdered) (one : LeadsToOne) (needs : Ne
   end_alike log of last (Some end) rising (EndState atom said is) (EndState atom' said' is') comes comes' =
       counts_alike laws order one needs program (codes "EndState said ") (codes " is ") said said' is is' (atom_of atom) (atom_of atom')
       (difference_once laws end.state rising last.state (atom_of atom) (atom_of atom') said said' is is' comes.1 comes'.1)
-  end_alike log of last None rising NotEnded other comes comes' = absurd comes'
-  end_alike log of last None rising cause other comes comes' = absurd comes
-  end_alike log of last (Some end) rising (NotQuiet offer) other comes comes' = absurd comes'
-  end_alike log of last (Some end) rising (EndState atom said is) other comes comes' = absurd comes'
-  end_alike log of last (Some end) rising cause other comes comes' = absurd comes
+  end_alike log of last end rising cause other comes comes' = grind arith
 
   -- From a spot on a log is refused for one cause at one line.
   from_alike : (log : Log) → IsLogOf program log → (steps : List LogStep) → AllByRecursion (IsStepOf program) steps → (old : Spot) (line line' : ℕ) (cause other : Cause) → IsRefusedFrom program log old steps line cause → IsRefusedFrom program log old steps line' other → (line ≡ line') × AreToldAlike program cause other
   from_alike log of [] each old line line' cause other refused refused' = (refused.0 ∙ sym refused'.0, end_alike log of old log.end (ends_rise log.end of.ending) cause other refused.1 refused'.1)
-  from_alike log of (step ∷ steps) each old line line' cause other refused refused' = ⊎_elim
-      (λ here. ⊎_elim
-      (λ here'.
+  from_alike log of (step ∷ steps) each old line line' cause other (inl here) (inl here') =
       let alike = step_alike laws order one needs program log.height old here'.1.0 step each.0.listing cause other
-      (subst (λ (rule : Rule). IsStepCause program log.height old rule step cause) (some_same here.1.0 here'.1.0 (sym here.1.1 ∙ here'.1.1)) here.1.2) here'.1.2 in
-      (here.0 ∙ alike.0 ∙ sym here'.0, alike.1))
-      (λ later'. absurd (step_clash laws one needs program log.height old later'.0 here.1.0 step cause here.1.1 here.1.2 later'.1))
-      refused')
-      (λ later. ⊎_elim
-      (λ here'. absurd (step_clash laws one needs program log.height old later.0 here'.1.0 step other here'.1.1 here'.1.2 later.1))
-      (λ later'. from_alike log of steps each.1 later'.0 line line' cause other
-      (subst (λ (spot : Spot). IsRefusedFrom program log spot steps line cause) (one_spot laws one needs program log.height old later.0 later'.0 step later.1 later'.1) later.2) later'.2)
-      refused')
-      refused
+      (rw (some_same here.1.0 here'.1.0 (sym here.1.1 ∙ here'.1.1)) at here.1.2) here'.1.2 in
+      (here.0 ∙ alike.0 ∙ sym here'.0, alike.1)
+  from_alike log of (step ∷ steps) each old line line' cause other (inl here) (inr later') = absurd (step_clash laws one needs program log.height old later'.0 here.1.0 step cause here.1.1 here.1.2 later'.1)
+  from_alike log of (step ∷ steps) each old line line' cause other (inr later) (inl here') = absurd (step_clash laws one needs program log.height old later.0 here'.1.0 step other here'.1.1 here'.1.2 later.1)
+  from_alike log of (step ∷ steps) each old line line' cause other (inr later) (inr later') =
+      from_alike log of steps each.1 later'.0 line line' cause other (rw (one_spot laws one needs program log.height old later.0 later'.0 step later.1 later'.1) at later.2) later'.2
 
   -- A log of the program is refused for one cause at one line.
   pub refused_alike : (log : Log) → IsLogOf program log → (line line' : ℕ) (cause other : Cause) → IsLogRefused program log line cause → IsLogRefused program log line' other → (line ≡ line') × AreToldAlike program cause other
-  refused_alike log of line line' cause other refused refused' = ⊎_elim
-      (λ start. ⊎_elim
-      (λ start'. (start.0 ∙ sym start'.0, start_alike log of cause other start.1 start'.1))
-      (λ later'. absurd (start_clash laws one needs program log cause start.1 later'.0 later'.1))
-      refused')
-      (λ later. ⊎_elim
-      (λ start'. absurd (start_clash laws one needs program log other start'.1 later.0 later.1))
-      (λ later'. from_alike log of log.steps of.steps (start_spot program) line line' cause other later.2 later'.2)
-      refused')
-      refused
+  refused_alike log of line line' cause other (inl start) (inl start') = (start.0 ∙ sym start'.0, start_alike log of cause other start.1 start'.1)
+  refused_alike log of line line' cause other (inr later) (inr later') = from_alike log of log.steps of.steps (start_spot program) line line' cause other later.2 later'.2
+  refused_alike log of line line' cause other (inl start) (inr later') = absurd (start_clash laws one needs program log cause start.1 later'.0 later'.1)
+  refused_alike log of line line' cause other (inr later) (inl start') = absurd (start_clash laws one needs program log other start'.1 later.0 later.1)

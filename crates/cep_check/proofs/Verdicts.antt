@@ -1,9 +1,10 @@
 -- What checking a step and a log comes to, from what each part finds.
-use Rattle.std.proofs.Common.{ℕ, List, length, arith, ◌≡◌, inr, ⊎_elim, zero, suc, ◌+◌, ◌<◌, ◌≤◌, [], ◌∷◌, take, drop, Some, sym, ap, subst, ◌∙◌, add-one, ◌⊎◌, Bool, ◌||◌, ◌++◌, map, Contains, Option, None, refl}
+use Rattle.std.proofs.Common.{ℕ, List, length, arith, ◌≡◌, inl, inr, suc, ◌+◌, ◌<◌, [], ◌∷◌, take, Some, sym, ap, subst, ◌∙◌, ◌⊎◌, ◌||◌, ◌++◌, Contains, Option}
 use Rattle.std.specs.List.{AllByRecursion}
-use Rattle.std.specs.Prelude.{slice_get, ◌/◌, ◌↔◌, IsSome, IfSome, filter, IsSomeAnd}
+use Rattle.std.specs.Prelude.{slice_get, ◌/◌, ◌↔◌, IsSome, IfSome}
+use Rattle.cep_rule.proofs.StepLaws.{all_kept}
 use Rattle.cep_rule.specs.Shapes.{IsOfferOf}
-use Rattle.cep_base.proofs.Lists.{all_weaker, all_mapped, some_same, get_mapped, holds_at}
+use Rattle.cep_base.proofs.Lists.{all_weaker, all_mapped, some_same, holds_at}
 use Rattle.cep_base.proofs.Elements.{all_at, both_all}
 use Rattle.cep_term.specs.Tree.{Tree, AtomTree, IsGroundAtom, IsAtomInRange, IsFit, atom_of}
 use Rattle.cep_term.specs.BagLaws.{BagLaws}
@@ -19,23 +20,21 @@ use Rattle.cep_log.specs.declared.log.LogStep.{LogStep}
 use Rattle.cep_log.specs.declared.log.Log.{Log}
 use Rattle.cep_log.specs.Legal.{IsStepOf, IsLegalStep, AreLegalSteps, IsHave, IsListing, IsLogOf}
 use Rattle.cep_step.specs.declared.change.Change.{Change}
-use Rattle.cep_step.specs.Changes.{edited, changed, IsChangeOf}
+use Rattle.cep_step.specs.Changes.{edited, IsChangeOf}
 use Rattle.cep_check.specs.declared.cause.Cause.{Cause}
 use Rattle.cep_check.specs.declared.cause.Verdict.{Verdict}
 use Rattle.cep_check.specs.declared.cause.Verdict.TheVariants.{Accepted, Refused}
 use Rattle.cep_check.specs.Telling.{IsTellableCause, IsTellable}
-use Rattle.cep_check.specs.declared.cause.Cause.TheVariants.{StageLine, MidState, StartStage, StartState, OtherStage, NotContained, NotProved, TooHigh, NotQuiet, OverLimit, NotEnded, EndState}
-use Rattle.cep_check.specs.Causes.{IsInTurn, IsWithinLimits, IsStepCause, IsOfStage, CanTake, IsProvedStep, cause_line, IsRefusedFrom, IsFirstDifference, IsFirstLack, IsStartCause, IsEndCause, IsVerdict, end_line}
+use Rattle.cep_check.specs.declared.cause.Cause.TheVariants.{StageLine, MidState, StartStage, StartState, OtherStage, NotContained, NotQuiet, EndState}
+use Rattle.cep_check.specs.Causes.{IsInTurn, IsStepCause, IsOfStage, CanTake, IsProvedStep, IsRefusedFrom, IsFirstDifference, IsFirstLack, IsStartCause, IsEndCause, IsVerdict, end_line}
 use Rattle.cep_check.specs.Walking.{IsStageCause, IsDoneStep, IsMidCause, IsReadyStep, IsLackCause, IsProofAt, IsOneProofCause, IsProofCause, IsQuietCause, IsEndVerdict}
 use Rattle.std.proofs.lemmas.Bool.{eqb-true, eqb-false}
-use Rattle.std.proofs.lemmas.List.{take_all, drop_all}
 use Rattle.std.proofs.lemmas.Option.{slice_get_within}
-use Rattle.cep_term.specs.Multiset.{Multiset, count_of, gathered, held}
+use Rattle.cep_term.specs.Multiset.{Multiset, count_of, gathered}
 use Rattle.cep_rule.specs.Derivations.{ProofTree, by_clause, Proves}
 use Rattle.cep_rule.specs.Limits.{IsSmallRule}
 use Rattle.cep_rule.specs.Program.{IsTypedRule, IsDividedRule, IsProgram}
 use Rattle.cep_rule.specs.Step.{Step}
-use Rattle.cep_rule.specs.Stages.{own_group, leaving_group}
 use Rattle.cep_rule.specs.Patterns.{PremiseTree}
 use Rattle.cep_rule.specs.declared.offer.Offer.{Offer}
 use Rattle.cep_rule.specs.Binding.{needed_of}
@@ -55,12 +54,9 @@ ground_all types signature kinds values are atoms typed = all_mapped (IsTyped si
 
 -- what a step in turn comes to that is within the limits
 module _ (program : Parts) (height : ℕ) (old : Spot) (rule : Rule) (step : LogStep) (ready : IsReadyStep program rule step) (in_turn : IsInTurn program height old rule step) (change : Change) (is : IsChangeOf program rule step.offer.values old change) where
-  within : IsWithinLimits program height old rule step (changed old change).state
-  within = record { in_turn = in_turn; fit = is.leads.fit; leads = is.leads.step; fits = is.leads.fits }
-
   -- it is followed by another stage than the rule's
   pub stage_cause : (cause : Cause) → IsStageCause step.stage rule.next cause → IsStepCause program height old rule step cause
-  stage_cause (StageLine said is) other = ((edited old.state change, within), other.0, other.1, other.2)
+  stage_cause (StageLine said named) other = ((edited old.state change, record { in_turn = in_turn; fit = is.leads.fit; leads = is.leads.step; fits = is.leads.fits }), other.0, other.1, other.2)
   stage_cause cause other = absurd other
 
 -- a step that is done is followed by another listing than that of where it leads
@@ -75,18 +71,12 @@ pub of_stage : (stage : ℕ) (rule : Rule) → rule.group / 2 ≡ stage → IsOf
 of_stage stage rule half = grind (arith, eqb-true, eqb-false, rule.group)
 
 pub of_no_stage : (stage : ℕ) (rule : Rule) → (rule.group / 2 ≡ stage → ⊥) → ¬ (IsOfStage stage rule)
-of_no_stage stage rule apart = λ is. ⊎_elim (λ (own : rule.group ≡ own_group stage). apart (omega arith)) (λ (leaving : rule.group ≡ leaving_group stage). apart (omega arith)) is
+of_no_stage stage rule apart is = grind (arith, apart)
 
 -- where one more derivation proves its goal, all up to it do
-proofs_one : (program : Parts) (height : ℕ) (proofs : List ProofTree) (goals : List AtomTree) (n : ℕ) (proof : ProofTree) (goal : AtomTree) → AreProofs program height (take n proofs) (take n goals) → slice_get proofs n ≡ Some proof → slice_get goals n ≡ Some goal → IsProofAt program height proof goal → AreProofs program height (take (suc n) proofs) (take (suc n) goals)
+pub proofs_one : (program : Parts) (height : ℕ) (proofs : List ProofTree) (goals : List AtomTree) (n : ℕ) (proof : ProofTree) (goal : AtomTree) → AreProofs program height (take n proofs) (take n goals) → slice_get proofs n ≡ Some proof → slice_get goals n ≡ Some goal → IsProofAt program height proof goal → AreProofs program height (take (suc n) proofs) (take (suc n) goals)
 proofs_one program height (x ∷ proofs) (y ∷ goals) (suc n) proof goal all p q is = (all.0, all.1, proofs_one program height proofs goals n proof goal all.2 p q is)
 proofs_one program height proofs goals n proof goal all p q is = grind arith
-
-pub proofs_more : (program : Parts) (height : ℕ) (proofs : List ProofTree) (goals : List AtomTree) (n : ℕ) (proof : ProofTree) (goal : AtomTree) → AreProofs program height (take n proofs) (take n goals) → slice_get proofs n ≡ Some proof → slice_get goals n ≡ Some goal → IsProofAt program height proof goal → AreProofs program height (take (n + 1) proofs) (take (n + 1) goals)
-proofs_more program height proofs goals n proof goal all p q is = subst (λ m. AreProofs program height (take m proofs) (take m goals)) (sym (add-one n)) (proofs_one program height proofs goals n proof goal all p q is)
-
-pub proofs_all : (program : Parts) (height : ℕ) (proofs : List ProofTree) (goals : List AtomTree) (n : ℕ) → length proofs ≤ n → length goals ≤ n → AreProofs program height (take n proofs) (take n goals) → AreProofs program height proofs goals
-proofs_all program height proofs goals n short short' all = subst (λ ps. AreProofs program height ps goals) (take_all n proofs short) (subst (AreProofs program height (take n proofs)) (take_all n goals short') all)
 
 -- the cause of a derivation at a place is that of all, where those before it prove their goals
 pub proof_cause : (program : Parts) (height : ℕ) (proofs : List ProofTree) (goals : List AtomTree) (n place : ℕ) (proof : ProofTree) (goal : AtomTree) (cause : Cause) → place ≡ n + 1 → AreProofs program height (take n proofs) (take n goals) → slice_get proofs n ≡ Some proof → slice_get goals n ≡ Some goal → IsOneProofCause program height proof goal place cause → IsProofCause program height proofs goals cause
@@ -102,34 +92,9 @@ module _ (program : Parts) (height : ℕ) (old : Spot) (rule : Rule) (step : Log
   pub quiet_cause : (cause : Cause) → IsProvedStep program height old rule step → IsQuietCause program height old rule cause → IsStepCause program height old rule step cause
   quiet_cause cause is there = grind arith
 
--- one step more
-legal_one : (program : Parts) (height : ℕ) (steps : List LogStep) (n : ℕ) (step : LogStep) (old new last : Spot) → slice_get steps n ≡ Some step → IsLegalStep program height old new step → AreLegalSteps program height (drop (suc n) steps) new last → AreLegalSteps program height (drop n steps) old last
-legal_one program height [] n step old new last at legal rest = absurd cc
-legal_one program height (x ∷ steps) zero step old new last at legal rest = (new, subst (IsLegalStep program height old new) (sym (some_same x step at)) legal, rest)
-legal_one program height (x ∷ steps) (suc n) step old new last at legal rest = legal_one program height steps n step old new last at legal rest
-
-pub legal_next : (program : Parts) (height : ℕ) (steps : List LogStep) (n : ℕ) (step : LogStep) (old new last : Spot) → slice_get steps n ≡ Some step → IsLegalStep program height old new step → AreLegalSteps program height (drop (n + 1) steps) new last → AreLegalSteps program height (drop n steps) old last
-legal_next program height steps n step old new last at legal rest = legal_one program height steps n step old new last at legal (subst (λ m. AreLegalSteps program height (drop m steps) new last) (add-one n) rest)
-
-refused_one : (program : Parts) (log : Log) (steps : List LogStep) (n : ℕ) (step : LogStep) (old new : Spot) (line : ℕ) (cause : Cause) → slice_get steps n ≡ Some step → IsLegalStep program log.height old new step → IsRefusedFrom program log new (drop (suc n) steps) line cause → IsRefusedFrom program log old (drop n steps) line cause
-refused_one program log [] n step old new line cause at legal rest = absurd cc
-refused_one program log (x ∷ steps) zero step old new line cause at legal rest = inr (new, subst (IsLegalStep program log.height old new) (sym (some_same x step at)) legal, rest)
-refused_one program log (x ∷ steps) (suc n) step old new line cause at legal rest = refused_one program log steps n step old new line cause at legal rest
-
-pub refused_next : (program : Parts) (log : Log) (steps : List LogStep) (n : ℕ) (step : LogStep) (old new : Spot) (line : ℕ) (cause : Cause) → slice_get steps n ≡ Some step → IsLegalStep program log.height old new step → IsRefusedFrom program log new (drop (n + 1) steps) line cause → IsRefusedFrom program log old (drop n steps) line cause
-refused_next program log steps n step old new line cause at legal rest = refused_one program log steps n step old new line cause at legal (subst (λ m. IsRefusedFrom program log new (drop m steps) line cause) (add-one n) rest)
-
-pub refused_here : (program : Parts) (log : Log) (steps : List LogStep) (n : ℕ) (step : LogStep) (old : Spot) (cause : Cause) → slice_get steps n ≡ Some step → ((rule : Rule) × (slice_get program.rules step.offer.rule ≡ Some rule) × IsStepCause program log.height old rule step cause) → IsRefusedFrom program log old (drop n steps) (cause_line step cause) cause
-refused_here program log (x ∷ steps) (suc n) step old cause at comes = refused_here program log steps n step old cause at comes
-refused_here program log steps n step old cause at comes = grind arith
-
 -- no proof is of what is not fit
 pub only_fit : (program : Parts) (proof : ProofTree) (a : AtomTree) → Proves program proof a → IsFit a
 only_fit program (by_clause number values subs) a proves = proves.0
-
--- the instance of a premise is at the premise's place
-pub instance_at : (values : List Tree) (atoms : List AtomTree) (n : ℕ) (a : AtomTree) → slice_get atoms n ≡ Some a → slice_get (full_instances values atoms) n ≡ Some (full_instance values a)
-instance_at values atoms n a is = get_mapped (full_instance values) atoms n a is
 
 -- what is known of a step of the program
 pub ready : (program : Parts) (rule : Rule) (step : LogStep) → IsProgram program → IsStepOf program step → slice_get program.rules step.offer.rule ≡ Some rule → IsReadyStep program rule step
@@ -151,10 +116,6 @@ ready program rule step kept of_program numbered =
 
 -- What checking a log comes to can be told.
 
--- a number that is not 0
-some_number : (n : ℕ) → (0 ≡ n → ⊥) → 0 < n
-some_number n apart = grind arith
-
 -- Each atom of the state has a text.
 abbrev AreWritable : Parts → Multiset → Type 0
 AreWritable program state = (a : AtomTree) → 0 < count_of state a → IsTypedGround program.signature a
@@ -162,14 +123,6 @@ AreWritable program state = (a : AtomTree) → 0 < count_of state a → IsTypedG
 -- an atom that is there after a step is of the right side, or was there
 abbrev pub ComesFrom : Type 0
 ComesFrom = (signature : Signature) (rule : Rule) (values : List Tree) (old new : Multiset) (a : AtomTree) → Step signature rule values old new → 0 < count_of new a → Contains (full_instances values (rule.right ++ kept_of signature rule)) a ⊎ (0 < count_of old a)
-
--- what holds of the atoms of all premises holds of those that pass a test
-all_passing : (P : AtomTree → Type 0) (test : PremiseTree → Bool) (premises : List PremiseTree) → AllByRecursion P (map (λ premise. premise.atom) premises) → AllByRecursion P (map (λ premise. premise.atom) (filter test premises))
-all_passing P test [] all = tt
-all_passing P test (premise ∷ premises) all = grind (arith, all_passing P test premises all.1, all.1, all.0)
-
-some_held : (t : Bool) (n m : ℕ) → m ≡ held t n → 0 < m → 0 < n
-some_held t n m e some = grind arith
 
 module _ (bags : BagLaws) (types : TypeLaws) (comes_from : ComesFrom) (program : Parts) (kept : IsProgram program) where
   start_writable : AreWritable program program.start
@@ -183,31 +136,24 @@ module _ (bags : BagLaws) (types : TypeLaws) (comes_from : ComesFrom) (program :
   right_writable rule values are typed =
       instances_writable rule values (rule.right ++ kept_of program.signature rule) are
       (both_all (IsTyped program.signature rule.kinds) rule.right (kept_of program.signature rule) typed.right
-      (all_passing (IsTyped program.signature rule.kinds) (λ premise. premise.kept || is_fact program.signature premise.atom) rule.premises typed.premises))
+      (all_kept (IsTyped program.signature rule.kinds) (λ (premise : PremiseTree). premise.atom) (λ premise. premise.kept || is_fact program.signature premise.atom) rule.premises typed.premises))
 
   -- a step leads from writable atoms to writable ones
   step_writable : (rule : Rule) (values : List Tree) (old new : Multiset) → AreValues program.signature.cons rule.kinds values → IsTypedRule program.signature rule → Step program.signature rule values old new → AreWritable program old → AreWritable program new
-  step_writable rule values old new are typed step writable = λ a some. ⊎_elim
-      (λ right. all_at (IsTypedGround program.signature) (full_instances values (rule.right ++ kept_of program.signature rule)) a (right_writable rule values are typed) right)
-      (λ there. writable a there)
-      (comes_from program.signature rule values old new a step some)
+  step_writable rule values old new are typed step writable a some = grind (arith, comes_from program.signature rule values old new a step some, all_at (IsTypedGround program.signature) (full_instances values (rule.right ++ kept_of program.signature rule)) a (right_writable rule values are typed), writable a)
 
   -- an atom of which a listing says another number of copies than there are
   difference_writable : (listing : List (AtomTree × ℕ)) (state : Multiset) (atom : AtomTree) (said is : ℕ) → AllByRecursion (IsHave program.signature) listing → AreWritable program state → IsFirstDifference listing state atom said is → IsTypedGround program.signature atom
-  difference_writable listing state atom said is each writable differs = ⊎_elim
-      (λ there. let have = all_at (IsHave program.signature) listing (atom, said) each there in have.atom)
-      (λ none. writable atom (some_number (count_of state atom) (λ same. differs.differ (none.0 ∙ same ∙ sym differs.there))))
-      differs.listed
+  difference_writable listing state atom said is each writable differs = grind (arith, all_at (IsHave program.signature) listing (atom, said) each, writable atom, differs.listed, differs.there, differs.differ)
 
   -- an atom that is needed and lacks
   lack_writable : (rule : Rule) (values : List Tree) (state : Multiset) (atom : AtomTree) (have need : ℕ) → AreValues program.signature.cons rule.kinds values → IsTypedRule program.signature rule → IsFirstLack (left_of program.signature rule values) state atom have need → IsTypedGround program.signature atom
   lack_writable rule values state atom have need are typed lacks =
-      let wanted = lacks.wanted in
-      let fewer = lacks.lacks in
-      all_at (IsTypedGround program.signature) (full_instances values (needed_of rule)) atom (instances_writable rule values (needed_of rule) are typed.premises) ((bags.gathered_there (full_instances values (needed_of rule)) atom).0 (some_held (is_fact program.signature atom) (count_of (gathered (full_instances values (needed_of rule))) atom) (count_of (left_of program.signature rule values) atom) (bags.once_count (is_fact program.signature) (gathered (full_instances values (needed_of rule))) atom) (omega arith)))
+      all_at (IsTypedGround program.signature) (full_instances values (needed_of rule)) atom (instances_writable rule values (needed_of rule) are typed.premises)
+      ((bags.gathered_there (full_instances values (needed_of rule)) atom).0 (grind (arith, lacks.wanted, lacks.lacks, bags.once_count (is_fact program.signature) (gathered (full_instances values (needed_of rule))) atom)))
 
   offer_of : (height : ℕ) (state : Multiset) (offer : Offer) → Applies program height state offer → IsOfferOf program offer
-  offer_of height state offer applies = subst (λ found. IsSomeAnd found (λ (rule : Rule). AreValues program.signature.cons rule.kinds offer.values)) (sym applies.numbered) applies.values
+  offer_of height state offer applies = rw applies.numbered applies.values
 
   start_told : (log : Log) (cause : Cause) → IsLogOf program log → IsStartCause program log cause → IsTellableCause program cause
   start_told log (StartStage said is) of_program comes = grind (arith, program.stages, comes.0, of_program.stage, comes.1, kept.in_range.start_stage)
@@ -227,17 +173,12 @@ module _ (bags : BagLaws) (types : TypeLaws) (comes_from : ComesFrom) (program :
       let listing : IsListing program.signature mid.0.state = subst (λ (found : Option LogMid). IfSome found (λ (mid : LogMid). IsListing program.signature mid.state)) mid.1 of_program.listing in
       difference_writable mid.0.state comes.0 (atom_of atom) said is listing.each
       (step_writable rule step.offer.values old.state comes.0 known.values known.typed comes.1.within.leads writable) mid.3
-  step_told height old rule step (NotProved place) writable of_program numbered comes = tt
-  step_told height old rule step (TooHigh place high) writable of_program numbered comes = tt
-  step_told height old rule step (OverLimit limit) writable of_program numbered comes = tt
-  step_told height old rule step cause writable of_program numbered comes = absurd comes
+  step_told height old rule step cause writable of_program numbered comes = grind arith
 
   end_told : (height : ℕ) (last : Spot) (end : Option LogEnd) (cause : Cause) → IfSome end (λ (end : LogEnd). IsListing program.signature end.state) → AreWritable program last.state → IsEndCause program height last end cause → IsTellableCause program cause
   end_told height last (Some end) (NotQuiet offer) listing writable comes = grind (arith, offer_of, last.state, comes.1)
   end_told height last (Some end) (EndState atom said is) listing writable comes = difference_writable end.state last.state (atom_of atom) said is listing.each writable comes.1
-  end_told height last (Some end) cause listing writable comes = absurd comes
-  end_told height last None NotEnded listing writable comes = tt
-  end_told height last None cause listing writable comes = absurd comes
+  end_told height last end cause listing writable comes = grind arith
 
   -- where a legal step leads, atoms are writable
   legal_writable : (height : ℕ) (old new : Spot) (step : LogStep) → IsLegalStep program height old new step → AreWritable program old.state → AreWritable program new.state
@@ -247,23 +188,17 @@ module _ (bags : BagLaws) (types : TypeLaws) (comes_from : ComesFrom) (program :
 
   from_told : (log : Log) (steps : List LogStep) (old : Spot) (line : ℕ) (cause : Cause) → IsLogOf program log → AllByRecursion (IsStepOf program) steps → AreWritable program old.state → IsRefusedFrom program log old steps line cause → IsTellableCause program cause
   from_told log [] old line cause of_program each writable refused = end_told log.height old log.end cause of_program.ending writable refused.1
-  from_told log (step ∷ steps) old line cause of_program each writable refused = ⊎_elim
-      (λ here. step_told log.height old here.1.0 step cause writable each.0 here.1.1 here.1.2)
-      (λ later. from_told log steps later.0 line cause of_program each.1 (legal_writable log.height old later.0 step later.1 writable) later.2)
-      refused
+  from_told log (step ∷ steps) old line cause of_program each writable (inl here) = step_told log.height old here.1.0 step cause writable each.0 here.1.1 here.1.2
+  from_told log (step ∷ steps) old line cause of_program each writable (inr later) = from_told log steps later.0 line cause of_program each.1 (legal_writable log.height old later.0 step later.1 writable) later.2
 
   pub verdict_told : (log : Log) (verdict : Verdict) → IsLogOf program log → IsVerdict program log verdict → IsTellable program verdict
   verdict_told log verdict of_program is = grind (arith, start_told, from_told, start_writable)
 
 -- What a check comes to, from what its parts find.
 
--- after the last step nothing is left to do
-pub none_left : (program : Parts) (height : ℕ) (steps : List LogStep) (n : ℕ) (spot : Spot) → length steps ≤ n → AreLegalSteps program height (drop n steps) spot spot
-none_left program height steps n spot all = subst (λ rest. AreLegalSteps program height rest spot spot) (sym (drop_all n steps all)) refl
-
 -- where all steps are legal, the end decides
 refused_end : (program : Parts) (log : Log) (steps : List LogStep) (old last : Spot) (line : ℕ) (cause : Cause) → AreLegalSteps program log.height steps old last → line ≡ end_line log log.end → IsEndCause program log.height last log.end cause → IsRefusedFrom program log old steps line cause
-refused_end program log [] old last line cause legal line_is comes = (line_is, subst (λ (spot : Spot). IsEndCause program log.height spot log.end cause) legal comes)
+refused_end program log [] old last line cause legal line_is comes = (line_is, rw (sym legal) comes)
 refused_end program log (step ∷ steps) old last line cause legal line_is comes = inr (legal.0, legal.1, refused_end program log steps legal.0 last line cause legal.2 line_is comes)
 
 module _ (program : Parts) (log : Log) (of_program : IsLogOf program log) (stage : log.stage ≡ program.start_stage) (start : log.start ≡ finite.entries program.start) where

@@ -10,6 +10,7 @@ use Rattle.cep_base.proofs.Elements.{all_at, all_of, contains_cases, contains_be
 use Rattle.cep_base.proofs.Lists.{holds_at, some_same, all_mapped, filter_few, all_weaker, all_flat}
 use Rattle.cep_term.specs.Tree.{Tree, AtomTree, IsGroundAtom}
 use Rattle.cep_term.specs.Multiset.{Multiset, count_of, gathered, IsContained, IsBag, IsOnce, held, difference_of, copies_in}
+use Rattle.cep_rule.proofs.StepLaws.{all_kept}
 use Rattle.cep_rule.specs.declared.rule.Rule.{Rule}
 use Rattle.cep_rule.specs.declared.parts.Parts.{Parts}
 use Rattle.cep_rule.specs.declared.offer.Offer.{Offer}
@@ -240,10 +241,6 @@ module _ (laws : RoundLaws) (program : Parts) where
 
 -- The atoms of the sides of offers: they are ground, they are few, and their counts are those of the sides.
 
-all_kept : (P : AtomTree → Type 0) (test : PremiseTree → Bool) (premises : List PremiseTree) → AllByRecursion P (map (λ premise. premise.atom) premises) → AllByRecursion P (map (λ premise. premise.atom) (filter test premises))
-all_kept P test [] all = tt
-all_kept P test (premise ∷ premises) all = grind (arith, all_kept P test premises all.1)
-
 both_held : (t : Bool) (x y n m : ℕ) → n ≡ held t x → m ≡ held t y → held t (n + m) ≡ held t (x + y)
 both_held t x y n m e f = grind arith
 
@@ -261,7 +258,7 @@ module _ (laws : RoundLaws) (program : Parts) (kept : IsProgram program) (offer 
   small = holds_at IsSmallRule program.rules offer.rule rule kept.small.each_rule is.numbered
 
   stay_typed : AllByRecursion (IsTyped program.signature rule.kinds) (kept_of program.signature rule)
-  stay_typed = all_kept (IsTyped program.signature rule.kinds) (λ premise. premise.kept || is_fact program.signature premise.atom) rule.premises typed.premises
+  stay_typed = all_kept (IsTyped program.signature rule.kinds) (λ (premise : PremiseTree). premise.atom) (λ premise. premise.kept || is_fact program.signature premise.atom) rule.premises typed.premises
 
   ground : (atoms : List AtomTree) → AllByRecursion (IsTyped program.signature rule.kinds) atoms → AllByRecursion IsGroundAtom (full_instances offer.values atoms)
   ground atoms all = all_mapped (IsTyped program.signature rule.kinds) IsGroundAtom (full_instance offer.values) atoms (λ a. laws.types.ground program.signature rule.kinds offer.values a is.values) all

@@ -1,5 +1,5 @@
 -- Multisets and lists in order that are told by what they hold.
-use Rattle.std.proofs.Common.{◌≡◌, ◌≢◌, ℕ, ◌+◌, Bool, cond, List, [], ◌∷◌, Option, Some, unwrap_or, sym, ◌∙◌, arith, true, false, ◌&&◌, ◌++◌, drop, ap, append_assoc, ⊎_elim, refl, Contains}
+use Rattle.std.proofs.Common.{◌≡◌, ◌≢◌, ℕ, ◌+◌, Bool, cond, List, [], ◌∷◌, Some, sym, ◌∙◌, arith, true, false, ◌&&◌, ◌++◌, drop, ap, append_assoc, refl, Contains}
 use Rattle.std.specs.Prelude.{fold, slice_get, nat_lt}
 use Rattle.std.specs.List.{AllByRecursion}
 use Rattle.std.specs.Ordering.{eq_by_cmp, nat_cmp, ordering_then, ordering_reverse}
@@ -34,9 +34,6 @@ found_some (e ∷ entries) each b is = grind (arith, found_some entries each.1 b
 pub copies-bag : (bag : Multiset) → IsBag bag → HasCopies bag
 copies-bag bag is a e = found_some (finite.entries bag) is a (sym (get-entries bag a) ∙ e)
 
-same_found : (x y : Option ℕ) → x ≢ Some 0 → y ≢ Some 0 → unwrap_or x 0 ≡ unwrap_or y 0 → x ≡ y
-same_found x y p q e = grind arith
-
 module _ (laws : BagLaws) where
   copies-with_count : (bag : Multiset) (a : AtomTree) (n : ℕ) → HasCopies bag → HasCopies (with_count bag a n)
   copies-with_count bag a n has b e = grind (arith, has b, get-remove laws.total bag a b, get-insert laws.total bag a n b)
@@ -53,7 +50,7 @@ module _ (laws : BagLaws) where
   copies-sum_of bag other has = copies-added (finite.entries other) bag has
 
   pub same_counts : (one other : Multiset) → HasCopies one → HasCopies other → ((a : AtomTree) → count_of one a ≡ count_of other a) → one ≡ other
-  same_counts one other has has' same = same_map laws.total laws.ties one other (λ a. same_found (finite.get one a) (finite.get other a) (has a) (has' a) (same a))
+  same_counts one other has has' same = same_map laws.total laws.ties one other (λ a. grind (arith, has a, has' a, same a))
 
 -- how much a test adds to a count
 abbrev pub one_if : Bool → ℕ
@@ -77,16 +74,8 @@ module _ (laws : BagLaws) (test : AtomTree → Bool) (state fresh : Multiset) (a
       → ((b : AtomTree) → test b ≡ true → count_of fresh' b ≡ count_of (with_one fresh a) b) → list' ≡ list ++ a ∷ []
       → whole ≡ list' ++ gained test (sum_of state fresh') (drop (n + 1) atoms)
   taken n a fresh' list' so_far is held more longer =
-      so_far
-      ∙ ap (λ xs. list ++ gained test (sum_of state fresh) xs) (drop_at atoms n a is)
-      ∙ ap (λ t. list ++ cond t (gained test (sum_of state fresh) (drop (n + 1) atoms)) (a ∷ gained test (with_one (sum_of state fresh) a) (drop (n + 1) atoms))) held
-      ∙ ap (λ xs. list ++ a ∷ xs) (laws.gained_alike test (with_one (sum_of state fresh) a) (sum_of state fresh') (drop (n + 1) atoms) alike)
-      ∙ sym (append_assoc list (a ∷ []) (gained test (sum_of state fresh') (drop (n + 1) atoms)))
-      ∙ ap (λ xs. xs ++ gained test (sum_of state fresh') (drop (n + 1) atoms)) (sym longer)
-    where
-      alike : (b : AtomTree) → test b ≡ true → count_of (with_one (sum_of state fresh) a) b ≡ count_of (sum_of state fresh') b
-      alike b is' =
-          omega (arith, count_more laws (sum_of state fresh) a b, laws.sum state fresh b, laws.sum state fresh' b, more b is', count_more laws fresh a b)
+      let alike : (b : AtomTree) → test b ≡ true → count_of (with_one (sum_of state fresh) a) b ≡ count_of (sum_of state fresh') b = λ b is'. omega (arith, count_more laws (sum_of state fresh) a b, laws.sum state fresh b, laws.sum state fresh' b, more b is', count_more laws fresh a b) in
+      grind (arith, drop_at atoms n a is, laws.gained_alike test (with_one (sum_of state fresh) a) (sum_of state fresh') (drop (n + 1) atoms) alike, append_assoc)
 
 -- Two lists that are strictly increasing and have the same elements are one list.
 
@@ -102,12 +91,7 @@ module _ {X : Type 0} (Before : X → X → Type 0) (apart : (x y : X) → Befor
 
   -- the first elements are the same
   same_first : (x y : X) (xs ys : List X) → Rises (x ∷ xs) → Rises (y ∷ ys) → IsAmong (x ∷ xs) (y ∷ ys) → IsAmong (y ∷ ys) (x ∷ xs) → x ≡ y
-  same_first x y xs ys rises rises' among among' =
-      ⊎_elim sym
-      (λ x_later. ⊎_elim (λ same. same)
-      (λ y_later. absurd (apart y x (all_at (Before y) ys x rises'.0 x_later) (all_at (Before x) xs y rises.0 y_later)))
-      (contains_cases x xs y (among' y (contains_first y ys))))
-      (contains_cases y ys x (among x (contains_first x xs)))
+  same_first x y xs ys rises rises' among among' = grind (arith, contains_cases x xs y (among' y (contains_first y ys)), contains_cases y ys x (among x (contains_first x xs)), all_at (Before y) ys x rises'.0, all_at (Before x) xs y rises.0, apart)
 
   -- after the first elements too, each is one of the other
   among_rest : (x y : X) (xs ys : List X) → Rises (x ∷ xs) → x ≡ y → IsAmong (x ∷ xs) (y ∷ ys) → IsAmong xs ys
@@ -133,10 +117,7 @@ module _ (trees : IsTotalOrder tree_cmp) where
   offer_cmp_total = then_total (on_total (λ (x : Offer). x.rule) nat_cmp_total) (on_total (λ (x : Offer). x.values) (lists_total trees))
 
   pub offer_cmp_ties : IsAntisymmetric tree_cmp → (one other : Offer) → offer_cmp one other ≡ Equal → one ≡ other
-  offer_cmp_ties ties one other e =
-      let parts = both_equal (nat_cmp one.rule other.rule) (slice_cmp tree_cmp one.values other.values) e in
-      let values : one.values ≡ other.values = slice_cmp-IsAntisymmetric ties one.values other.values parts.1 in
-      λ i. record { rule = (nat_cmp-IsAntisymmetric one.rule other.rule parts.0) i; values = values i }
+  offer_cmp_ties ties one other e = grind (arith, both_equal (nat_cmp one.rule other.rule) (slice_cmp tree_cmp one.values other.values) e, slice_cmp-IsAntisymmetric ties one.values other.values, nat_cmp-IsAntisymmetric one.rule other.rule)
 
   -- no two offers stand before each other
   apart : (x y : Offer) → offer_cmp x y ≡ Less → offer_cmp y x ≡ Less → ⊥

@@ -57,12 +57,9 @@ first_like clauses heads keys pred first from n Q have range after so = by (slic
     by (Some clause) has = λ same_pred same_first. so (among keys range (ap (λ p. contains head_cmp heads (p, first, n)) (sym same_pred) ∙ ap (λ f. contains head_cmp heads (clause.head.pred, f, n)) (sym same_first) ∙ has))
 
 module _ (heads more : BTreeSet HeadKey) (new : HeadKey) (updates : Updates head_cmp heads more new true) where
-  kept : (key : HeadKey) → contains head_cmp heads key ≡ true → contains head_cmp more key ≡ true
-  kept key has = let here = updates.0 key in grind arith
-
   -- the keys of the clauses stay
   pub heads_stay : (clauses : List ClauseTree) → HaveHeads clauses heads → HaveHeads clauses more
-  heads_stay clauses have n = grind (arith, kept)
+  heads_stay clauses have n = grind (arith, updates.0)
 
   -- and one more clause has the new one
   pub heads_more : (clauses : List ClauseTree) (clause : ClauseTree) → new ≡ head_key (length clauses) clause → HaveHeads clauses heads → HaveHeads (clauses ++ clause ∷ []) more

@@ -1,5 +1,5 @@
 -- Typed instances of sides and premises, and the steps that they make.
-use Rattle.std.proofs.Common.{◌≡◌, ℕ, suc, List, [], ◌∷◌, map, Some, None, unwrap_or, subst, arith, Bool, not, ◌||◌, ◌++◌, ◌⊎◌, inl, inr, ◌+◌, ◌-◌, ◌<◌, ◌≤◌, true, false, cond, Contains, refl, sym, ◌∙◌, length, ⊎_elim, ap}
+use Rattle.std.proofs.Common.{◌≡◌, ℕ, suc, List, [], ◌∷◌, map, Some, None, unwrap_or, subst, arith, Bool, not, ◌||◌, ◌++◌, ◌⊎◌, inl, inr, ◌+◌, ◌-◌, ◌<◌, ◌≤◌, true, false, cond, Contains, refl, sym, ◌∙◌, length, ap}
 use Rattle.std.specs.Prelude.{slice_get, slice_index_or, filter}
 use Rattle.std.specs.List.{AllByRecursion}
 use Rattle.std.proofs.lemmas.List.{map-append}
@@ -19,7 +19,7 @@ use Rattle.cep_rule.specs.Typing.{HasSort, HaveSorts, IsTyped, IsValue, AreValue
 use Rattle.cep_rule.specs.State.{joined, IsState, IsStateAtom}
 use Rattle.cep_rule.specs.Instances.{given, full_instance, full_instances, kept_of, taken_by, added_by, used_by, left_of, right_of}
 use Rattle.cep_rule.specs.Steps.{MakesFit}
-use Rattle.cep_base.proofs.Lists.{all_filtered, holds_at, all_weaker, all_from_places}
+use Rattle.cep_base.proofs.Lists.{all_filtered, all_mapped, holds_at, all_weaker, all_from_places}
 use Rattle.cep_rule.specs.Binding.{needed_of, OccursInSome, IsBoundRule, IsBoundClause}
 use Rattle.cep_rule.specs.Matching.{state_after}
 use Rattle.cep_rule.specs.declared.parts.Parts.{Parts}
@@ -55,12 +55,11 @@ mutual
 
   args_values : (cons : List Con) (kinds : List ℕ) (values : List Tree) → AreValues cons kinds values → (args : Trees) (sorts : List ℕ) → HaveSorts cons kinds sorts args → AreOf cons sorts (argument_instances (given values) args)
   args_values cons kinds values are none [] h = (tt, tt)
-  args_values cons kinds values are none (sort ∷ sorts) h = absurd h
-  args_values cons kinds values are (more t rest) [] h = absurd h
   args_values cons kinds values are (more t rest) (sort ∷ sorts) h =
       let first = term_value cons kinds values are t sort h.0 in
       let others = args_values cons kinds values are rest sorts h.1 in
       ((first.ground, others.0), (first.typed, others.1))
+  args_values cons kinds values are args sorts h = absurd h
 
 pub ground_instance : (signature : Signature) (kinds : List ℕ) (values : List Tree) (a : AtomTree) → AreValues signature.cons kinds values → IsTyped signature kinds a → IsGroundAtom (full_instance values a)
 ground_instance signature kinds values a are typed = from_some (slice_get signature.preds a.pred) _ _ (λ pred h. (args_values signature.cons kinds values are a.args pred.args h).0) typed
@@ -71,17 +70,16 @@ typed_instance signature kinds values a are typed = some_weaker (slice_get signa
 -- The atoms of both sides of a rule by values of the right types are ground.
 
 ground_all : (signature : Signature) (kinds : List ℕ) (values : List Tree) → AreValues signature.cons kinds values → (atoms : List AtomTree) → AllByRecursion (IsTyped signature kinds) atoms → AllByRecursion IsGroundAtom (full_instances values atoms)
-ground_all signature kinds values are [] typed = tt
-ground_all signature kinds values are (a ∷ atoms) typed = ((ground_instance signature kinds values a are typed.0), (ground_all signature kinds values are atoms typed.1))
+ground_all signature kinds values are atoms typed = all_mapped (IsTyped signature kinds) IsGroundAtom (full_instance values) atoms (λ a typed. ground_instance signature kinds values a are typed) typed
 
--- what holds of the atoms of all premises holds of those that stay
-all_kept : (P : AtomTree → Type 0) (test : PremiseTree → Bool) (premises : List PremiseTree) → AllByRecursion P (map (λ premise. premise.atom) premises) → AllByRecursion P (map (λ premise. premise.atom) (filter test premises))
-all_kept P test [] all = tt
-all_kept P test (premise ∷ premises) all = grind (arith, all_kept P test premises all.1)
+-- what holds of the images of all holds of those of the items that pass a test
+pub all_kept : {A B : Type 0} (P : B → Type 0) (image : A → B) (test : A → Bool) (items : List A) → AllByRecursion P (map image items) → AllByRecursion P (map image (filter test items))
+all_kept P image test [] all = tt
+all_kept P image test (item ∷ items) all = grind (arith, all_kept P image test items all.1)
 
 module _ (signature : Signature) (rule : Rule) (values : List Tree) (typed : IsTypedRule signature rule) (are : AreValues signature.cons rule.kinds values) where
   typed_kept : AllByRecursion (IsTyped signature rule.kinds) (kept_of signature rule)
-  typed_kept = all_kept (IsTyped signature rule.kinds) (λ premise. premise.kept || is_fact signature premise.atom) rule.premises typed.premises
+  typed_kept = all_kept (IsTyped signature rule.kinds) (λ (premise : PremiseTree). premise.atom) (λ premise. premise.kept || is_fact signature premise.atom) rule.premises typed.premises
 
   pub ground_left : AllByRecursion IsGroundAtom (full_instances values (needed_of rule))
   ground_left = ground_all signature rule.kinds values are (needed_of rule) typed.premises
@@ -97,7 +95,7 @@ module _ (signature : Signature) (rule : Rule) (values : List Tree) (typed : IsT
 
   pub ground_used : AllByRecursion IsGroundAtom (used_by signature rule values)
   ground_used = ground_all signature rule.kinds values are (map (λ (premise : PremiseTree). premise.atom) (filter (λ premise. not (premise.kept || is_fact signature premise.atom)) rule.premises))
-      (all_kept (IsTyped signature rule.kinds) (λ premise. not (premise.kept || is_fact signature premise.atom)) rule.premises typed.premises)
+      (all_kept (IsTyped signature rule.kinds) (λ (premise : PremiseTree). premise.atom) (λ premise. not (premise.kept || is_fact signature premise.atom)) rule.premises typed.premises)
 
   pub ground_made : AllByRecursion IsGroundAtom (full_instances values rule.right)
   ground_made = ground_all signature rule.kinds values are rule.right typed.right
@@ -190,24 +188,18 @@ module _ (laws : BagLaws) (signature : Signature) (rule : Rule) (values : List T
   kept_count [] a is = refl
   kept_count (premise ∷ premises) a is = by (stays premise) refl (kept_count premises a is)
     where
-      all : many (atoms_of (premise ∷ premises)) a ≡ many (atoms_of premises) a + one_if (eq_by_cmp atom_cmp (full_instance values premise.atom) a)
-      all = many_more premise.atom (atoms_of premises) a
-
       by : (t : Bool) → stays premise ≡ t → many (kept_among premises) a ≡ many (atoms_of premises) a → many (atoms_of (cond t (premise ∷ filter stays premises) (filter stays premises))) a ≡ many (atoms_of (premise ∷ premises)) a
-      by true e rest = omega (arith, all, many_more premise.atom (kept_among premises) a, rest)
-      by false e rest = let no_fact = (or_parts premise.kept (fact premise.atom) e).1 in grind (arith, all, same_atom (full_instance values premise.atom) a)
+      by true e rest = omega (arith, many_more premise.atom (atoms_of premises) a, many_more premise.atom (kept_among premises) a, rest)
+      by false e rest = let no_fact = (or_parts premise.kept (fact premise.atom) e).1 in grind (arith, many_more premise.atom (atoms_of premises) a, same_atom (full_instance values premise.atom) a)
 
   parted_count : (premises : List PremiseTree) (a : AtomTree) → many (atoms_of premises) a ≡ many (kept_among premises) a + many (used_among premises) a
   parted_count [] a = omega (arith, laws.empty a)
   parted_count (premise ∷ premises) a = by (stays premise) (parted_count premises a)
     where
-      all : many (atoms_of (premise ∷ premises)) a ≡ many (atoms_of premises) a + one_if (eq_by_cmp atom_cmp (full_instance values premise.atom) a)
-      all = many_more premise.atom (atoms_of premises) a
-
       by : (t : Bool) → many (atoms_of premises) a ≡ many (kept_among premises) a + many (used_among premises) a
           → many (atoms_of (premise ∷ premises)) a ≡ many (atoms_of (cond t (premise ∷ filter stays premises) (filter stays premises))) a + many (atoms_of (cond (not t) (premise ∷ filter (λ p. not (stays p)) premises) (filter (λ p. not (stays p)) premises))) a
-      by true rest = omega (arith, all, rest, many_more premise.atom (kept_among premises) a)
-      by false rest = omega (arith, all, rest, many_more premise.atom (used_among premises) a)
+      by true rest = omega (arith, many_more premise.atom (atoms_of premises) a, rest, many_more premise.atom (kept_among premises) a)
+      by false rest = omega (arith, many_more premise.atom (atoms_of premises) a, rest, many_more premise.atom (used_among premises) a)
 
   -- the sides and what they are joined with
   side_count : (atoms : List AtomTree) (rest : Multiset) (a : AtomTree) → count_of (joined signature (once fact (gathered atoms)) rest) a ≡ held (fact a) (held (fact a) (count_of (gathered atoms) a) + count_of rest a)
@@ -358,15 +350,14 @@ mutual
 
   args_in_range : (cons : List Con) (kinds sorts : List ℕ) (args : Trees) → HaveSorts cons kinds sorts args → AreInRange (length kinds) args
   args_in_range cons kinds [] none typed = tt
-  args_in_range cons kinds [] (more t rest) typed = absurd typed
-  args_in_range cons kinds (sort ∷ sorts) none typed = absurd typed
   args_in_range cons kinds (sort ∷ sorts) (more t rest) typed = ((term_in_range cons kinds sort t typed.0), (args_in_range cons kinds sorts rest typed.1))
+  args_in_range cons kinds sorts args typed = absurd typed
 
 pub atom_in_range : (signature : Signature) (kinds : List ℕ) (a : AtomTree) → IsTyped signature kinds a → IsAtomInRange (length kinds) a
 atom_in_range signature kinds a typed = from_some (slice_get signature.preds a.pred) _ _ (λ pred h. args_in_range signature.cons kinds pred.args a.args h) typed
 
 pub as_many_values : (cons : List Con) (kinds : List ℕ) (values : List Tree) → AreValues cons kinds values → length values ≡ length kinds
-as_many_values cons (sort ∷ kinds) (t ∷ values) are = let rest = as_many_values cons kinds values are.1 in omega arith
+as_many_values cons (sort ∷ kinds) (t ∷ values) are = omega (arith, as_many_values cons kinds values are.1)
 as_many_values cons kinds values are = grind arith
 
 -- The values of what applies or is proved are small: each variable occurs in an atom whose instance is fit.
@@ -380,29 +371,24 @@ module _ (values : List Tree) (v : ℕ) (u : Tree) (is : value_of (given values)
     within_term : (t : Tree) → Occurs v t → (term_nodes u ≤ term_nodes (term_instance (given values) t)) × (term_depth u ≤ term_depth (term_instance (given values) t))
     within_term (variable w) occurs =
         let here : unwrap_or (value_of (given values) w) (variable w) ≡ u = ap (λ o. unwrap_or o (variable w)) (ap (value_of (given values)) (sym occurs) ∙ is) in
-        subst (λ t. (term_nodes u ≤ term_nodes t) × (term_depth u ≤ term_depth t)) (sym here) ((omega arith), (omega arith))
-    within_term (node c args) occurs = let rest = within_args args occurs in ((let few = rest.0 in omega arith), (let low = rest.1 in omega arith))
+        rw here ((omega arith), (omega arith))
+    within_term (node c args) occurs = let rest = within_args args occurs in ((omega (arith, rest.0)), (omega (arith, rest.1)))
 
     within_args : (args : Trees) → OccursAmong v args → (term_nodes u ≤ argument_nodes (argument_instances (given values) args)) × (term_depth u ≤ argument_depth (argument_instances (given values) args))
     within_args none occurs = absurd occurs
-    within_args (more t rest) occurs = ⊎_elim
-        (λ here. let first = within_term t here in ((let few = first.0 in omega arith), (let low = first.1 in omega arith)))
-        (λ later. let others = within_args rest later in ((let few = others.0 in omega arith), (let low = others.1 in omega arith)))
-        occurs
+    within_args (more t rest) (inl here) = let first = within_term t here in ((omega (arith, first.0)), (omega (arith, first.1)))
+    within_args (more t rest) (inr later) = let others = within_args rest later in ((omega (arith, others.0)), (omega (arith, others.1)))
 
   -- a value is small where its variable occurs in an atom whose instance is fit
   value_small : (atoms : List AtomTree) → OccursInSome v atoms → AllByRecursion IsFit (full_instances values atoms) → IsSmallTerm u
   value_small [] occurs fit = absurd occurs
-  value_small (a ∷ atoms) occurs fit = ⊎_elim
-      (λ here. let within = within_args a.args here in record {
-        nodes = let few = within.0 in let most = fit.0.nodes in omega arith;
-        depth = let low = within.1 in let most = fit.0.depth in omega arith;
-      })
-      (λ later. value_small atoms later fit.1)
-      occurs
+  value_small (a ∷ atoms) (inl here) fit =
+      let within = within_args a.args here in
+      record { nodes = omega (arith, within.0, fit.0.nodes); depth = omega (arith, within.1, fit.0.depth) }
+  value_small (a ∷ atoms) (inr later) fit = value_small atoms later fit.1
 
 values_small : (values : List Tree) (vars : ℕ) (atoms : List AtomTree) → length values ≡ vars → ((v : ℕ) → v < vars → OccursInSome v atoms) → AllByRecursion IsFit (full_instances values atoms) → AllByRecursion IsSmallTerm values
-values_small values vars atoms many occurs fit = all_from_places IsSmallTerm values (λ v u is. value_small values v u (given_at values v u is) atoms (occurs v (let within = slice_get_within values v u is in omega arith)) fit)
+values_small values vars atoms many occurs fit = all_from_places IsSmallTerm values (λ v u is. value_small values v u (given_at values v u is) atoms (occurs v (omega (arith, slice_get_within values v u is))) fit)
 
 proved_fit : (program : Parts) (proof : ProofTree) (a : AtomTree) → Proves program proof a → IsFit a
 proved_fit program (by_clause number values subs) a proves = proves.0
@@ -442,7 +428,5 @@ module _ (program : Parts) (kept : IsProgram program) where
       values_small values (length rule.vars) (needed_of rule ++ rule.backs)
       (as_many_values program.signature.cons rule.kinds values applies.values ∙ (holds_at (IsTypedRule program.signature) program.rules offer.rule rule kept.typed_rules applies.numbered).kinds)
       (holds_at IsBoundRule program.rules offer.rule rule kept.bound_rules applies.numbered)
-      (subst (AllByRecursion IsFit) (sym (map-append (full_instance values) (needed_of rule) rule.backs))
-      (both_all IsFit (full_instances values (needed_of rule)) (full_instances values rule.backs)
-      (needed_fit laws state rule values is applies.contained)
+      (rw map-append (both_all IsFit (full_instances values (needed_of rule)) (full_instances values rule.backs) (needed_fit laws state rule values is applies.contained)
       (all_weaker (IsDerivable program height) IsFit (full_instances values rule.backs) (λ a (can : IsDerivable program height a). proved_fit program can.proof a can.proves) applies.derivable)))

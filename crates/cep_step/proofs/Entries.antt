@@ -1,8 +1,5 @@
 -- Edits of a state, entry by entry and in either order.
-use Rattle.std.proofs.Common.{◌≡◌, ℕ, ◌+◌, ◌*◌, ◌<◌, ◌≤◌, take, Some, ap, subst, ◌∙◌, arith, ◌-◌, ◌^◌, List, length}
-use Rattle.std.proofs.lemmas.List.{take_all}
-use Rattle.std.proofs.Math.Nat.{add-mul}
-use Rattle.std.specs.FinMap.{len-entries}
+use Rattle.std.proofs.Common.{◌≡◌, ℕ, ◌+◌, ◌*◌, ◌<◌, ◌≤◌, take, Some, arith, ◌^◌, List, length}
 use Rattle.std.proofs.lemmas.List.Sums.{sum_by_push, sum_by-take-le}
 use Rattle.std.specs.List.{AllByRecursion}
 use Rattle.std.specs.Prelude.{slice_get, sum_by}
@@ -21,17 +18,11 @@ entry_nodes e = e.1 * atom_nodes e.0
 
 -- one entry more
 pub next_entry : (state : Multiset) (n : ℕ) (a : AtomTree) (copies : ℕ) → slice_get (finite.entries state) n ≡ Some (a, copies) → sum_by entry_nodes (take (n + 1) (finite.entries state)) ≡ sum_by entry_nodes (take n (finite.entries state)) + copies * atom_nodes a
-next_entry state n a copies is = ap (sum_by entry_nodes) (take_next (finite.entries state) n (a, copies) is) ∙ sum_by_push entry_nodes (take n (finite.entries state)) (a, copies)
-
-pub first_entries : (state : Multiset) (n : ℕ) → sum_by entry_nodes (take n (finite.entries state)) ≤ nodes_in_all state
-first_entries state n = sum_by-take-le entry_nodes (finite.entries state) n
+next_entry state n a copies is = grind (arith, take_next (finite.entries state) n (a, copies) is, sum_by_push)
 
 -- an atom of a state has at most as many nodes as the state
 pub atom_within : (state : Multiset) (n : ℕ) (a : AtomTree) (copies : ℕ) → IsBag state → slice_get (finite.entries state) n ≡ Some (a, copies) → atom_nodes a ≤ nodes_in_all state
-atom_within state n a copies bag is = grind (arith, next_entry state n a copies is, first_entries state (n + 1), holds_at)
-
-pub all_entries : (state : Multiset) (n : ℕ) → finite.len state ≤ n → sum_by entry_nodes (take n (finite.entries state)) ≡ nodes_in_all state
-all_entries state n most = ap (sum_by entry_nodes) (take_all n (finite.entries state) (subst (λ m. m ≤ n) (len-entries state) most))
+atom_within state n a copies bag is = grind (arith, next_entry state n a copies is, sum_by-take-le entry_nodes (finite.entries state) (n + 1), holds_at)
 
 -- What is taken and what is added may come in either order.
 

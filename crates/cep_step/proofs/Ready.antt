@@ -1,10 +1,9 @@
 -- The change of a rule that applies, its sizes, and what the state after it weighs.
-use Rattle.std.proofs.Common.{◌≡◌, ℕ, ◌+◌, ◌≤◌, Bool, true, false, cond, not, ◌&&◌, ◌||◌, List, [], ◌∷◌, ◌++◌, length, map, take, Some, append_assoc, refl, sym, ap, ◌∙◌, suc, ◌*◌, max, None, unwrap_or, arith, ◌⊎◌, inl, inr, ⊎_elim, ◌^◌, ◌<◌, subst, Option}
+use Rattle.std.proofs.Common.{◌≡◌, not, ℕ, ◌+◌, ◌≤◌, Bool, true, ◌||◌, List, [], ◌∷◌, ◌++◌, length, map, take, Some, refl, ap, suc, ◌*◌, max, None, unwrap_or, arith, ◌⊎◌, ◌^◌, ◌<◌, Option}
 use Rattle.std.proofs.Math.Nat.{add-mul}
 use Rattle.std.specs.List.{AllByRecursion}
 use Rattle.std.specs.Prelude.{slice_get, filter, slice_index_or, sum_by, IfSome}
-use Rattle.std.proofs.lemmas.List.{map-append, take_all, length-map, length-append}
-use Rattle.std.proofs.lemmas.List.Elements.{filter-append}
+use Rattle.std.proofs.lemmas.List.{map-append, length-map, length-append}
 use Rattle.std.proofs.lemmas.List.Sums.{sum_by_push}
 use Rattle.cep_term.specs.BagLaws.{BagLaws}
 use Rattle.cep_term.specs.Values.{term_instance, argument_instances}
@@ -24,6 +23,8 @@ use Rattle.cep_rule.specs.Step.{Step}
 use Rattle.cep_rule.specs.Typing.{is_fact, IsTyped, AreValues}
 use Rattle.cep_rule.specs.declared.parts.Parts.{Parts}
 use Rattle.cep_rule.specs.declared.rule.Rule.{Rule}
+use Rattle.cep_rule.proofs.StepLaws.{all_kept}
+use Rattle.cep_rule.proofs.TypedValues.{term_alone}
 use Rattle.cep_base.proofs.Elements.{both_all, all_of, all_at}
 use Rattle.cep_base.proofs.Lists.{take_next, map_last, holds_at_mapped, holds_at, all_weaker, all_mapped, filter_few as few_pass}
 use Rattle.cep_base.specs.declared.limits.TheConstants.{MOST_DEPTH, MOST_NODES, MOST_PREMISES, MOST_RIGHT}
@@ -34,7 +35,7 @@ use Rattle.cep_step.specs.Weighing.{CanWeigh, IsReady}
 use Rattle.cep_step.specs.declared.size.Size.{Size}
 use Rattle.cep_step.specs.Passing.{IsTooLarge, IsFirstUnfit, IsExcess, IsTooFull}
 use Rattle.cep_step.specs.declared.weighing.Weighed.TheVariants.{Passes, Within}
-use Rattle.cep_step.specs.Sizes.{capped, one_more, size_of, size_at, size_by, size_among, IsBeyond}
+use Rattle.cep_step.specs.Sizes.{capped, size_of, size_at, size_by, size_among, IsBeyond}
 use Rattle.cep_step.specs.declared.limit.Limit.TheVariants.{Atom, State}
 
 -- Atoms of a rule that are gone through one by one.
@@ -48,47 +49,6 @@ linear_among signature premises = without (is_fact signature) (premise_atoms pre
 
 abbrev pub linear_kept_among : Signature → List PremiseTree → List AtomTree
 linear_kept_among signature premises = without (is_fact signature) (premise_atoms (filter (λ premise. premise.kept || is_fact signature premise.atom) premises))
-
--- one atom more
-pub next_instances : (values : List Tree) (atoms : List AtomTree) (n : ℕ) (a : AtomTree) → slice_get atoms n ≡ Some a → full_instances values (take (n + 1) atoms) ≡ full_instances values (take n atoms) ++ full_instance values a ∷ []
-next_instances values atoms n a is = ap (full_instances values) (take_next atoms n a is) ∙ map_last (full_instance values) (take n atoms) a
-
-pub all_instances : (values : List Tree) (atoms : List AtomTree) (n : ℕ) → length atoms ≤ n → full_instances values (take n atoms) ≡ full_instances values atoms
-all_instances values atoms n most = ap (full_instances values) (take_all n atoms most)
-
--- one premise more
-pub next_atoms : (premises : List PremiseTree) (n : ℕ) (premise : PremiseTree) → slice_get premises n ≡ Some premise → premise_atoms (take (n + 1) premises) ≡ premise_atoms (take n premises) ++ premise.atom ∷ []
-next_atoms premises n premise is = ap premise_atoms (take_next premises n premise is) ∙ map_last (λ (p : PremiseTree). p.atom) (take n premises) premise
-
--- the premises that pass a test, with one premise more
-next_passing : (test : PremiseTree → Bool) (premises : List PremiseTree) (n : ℕ) (premise : PremiseTree) → slice_get premises n ≡ Some premise → premise_atoms (filter test (take (n + 1) premises)) ≡ premise_atoms (filter test (take n premises)) ++ premise_atoms (cond (test premise) (premise ∷ []) [])
-next_passing test premises n premise is = rw (take_next premises n premise is, filter-append test (take n premises) (premise ∷ []), map-append (λ (p : PremiseTree). p.atom) (filter test (take n premises)) (cond (test premise) (premise ∷ []) []))
-
-pub nothing_more : {A : Type 0} (xs : List A) → xs ++ [] ≡ xs
-nothing_more [] = refl
-nothing_more (x ∷ xs) = ap (λ ys. x ∷ ys) (nothing_more xs)
-
-module _ (signature : Signature) (premises : List PremiseTree) (n : ℕ) (premise : PremiseTree) (is : slice_get premises n ≡ Some premise) where
-  -- the linear ones, with one premise more
-  pub linear_next : linear_among signature (take (n + 1) premises) ≡ linear_among signature (take n premises) ++ cond (not (is_fact signature premise.atom)) (premise.atom ∷ []) []
-  linear_next = grind (arith, next_atoms premises n premise is, filter-append, premise_atoms (take n premises), premise.atom)
-
-  -- and the linear ones that are kept
-  pub linear_kept_next : linear_kept_among signature (take (n + 1) premises) ≡ linear_kept_among signature (take n premises) ++ cond (premise.kept && not (is_fact signature premise.atom)) (premise.atom ∷ []) []
-  linear_kept_next =
-      ap (without (is_fact signature)) (next_passing (λ p. p.kept || is_fact signature p.atom) premises n premise is)
-      ∙ filter-append (λ a. not (is_fact signature a)) (premise_atoms (filter (λ p. p.kept || is_fact signature p.atom) (take n premises))) (premise_atoms (cond (premise.kept || is_fact signature premise.atom) (premise ∷ []) []))
-      ∙ ap (λ xs. linear_kept_among signature (take n premises) ++ xs) (by premise.kept (is_fact signature premise.atom) refl)
-    where
-      by : (k f : Bool) → is_fact signature premise.atom ≡ f → without (is_fact signature) (premise_atoms (cond (k || f) (premise ∷ []) [])) ≡ cond (k && not f) (premise.atom ∷ []) []
-      by true true e = ap (λ t. cond (not t) (premise.atom ∷ []) []) e
-      by true false e = ap (λ t. cond (not t) (premise.atom ∷ []) []) e
-      by false true e = ap (λ t. cond (not t) (premise.atom ∷ []) []) e
-      by false false e = refl
-
--- some atoms more, after what is there already
-pub more_behind : (values : List Tree) (initial front further atoms old new : List AtomTree) → atoms ≡ front ++ further → old ≡ initial ++ full_instances values front → new ≡ old ++ full_instances values further → new ≡ initial ++ full_instances values atoms
-more_behind values initial front further atoms old new longer so_far given = grind (arith, append_assoc, map-append)
 
 -- the instance of a premise's atom can be built, if those of all are
 pub premise_within : (values : List Tree) (premises : List PremiseTree) (n : ℕ) (premise : PremiseTree) → AllByRecursion (IsAtomInRange (length values)) (premise_atoms premises) → slice_get premises n ≡ Some premise → IsAtomInRange (length values) premise.atom
@@ -110,43 +70,24 @@ under_at : (values : List Tree) (v w : ℕ) → size_at (map size_of values) v �
 under_at (t ∷ values) (suc v) w = under_at values v w
 under_at values v w = refl
 
+-- the size of an instance
 mutual
   under : (values : List Tree) (t : Tree) → size_by (map size_of values) t ≡ size_of (term_instance (given values) t)
   under values (variable v) = under_at values v v
   under values (node c args) = grind (arith, among values args)
 
-  among : (values : List Tree) (args : Trees) → size_among (map size_of values) args ≡ size_of_all (argument_instances (given values) args)
+  pub among : (values : List Tree) (args : Trees) → size_among (map size_of values) args ≡ size_of_all (argument_instances (given values) args)
   among values none = refl
   among values (more t rest) = grind (arith, under values t, capped_sum (term_nodes (term_instance (given values) t)) (argument_nodes (argument_instances (given values) rest)), capped_max (term_depth (term_instance (given values) t)) (argument_depth (argument_instances (given values) rest)), among values rest)
 
--- the size of an instance's arguments
-pub measured_args : (values : List Tree) (sizes : List Size) (args : Trees) → sizes ≡ map size_of values → size_among sizes args ≡ size_of_all (argument_instances (given values) args)
-measured_args values sizes args same = ap (λ (other : List Size). size_among other args) same ∙ among values args
-
 mutual
-  no_values : (t : Tree) → term_instance (given []) t ≡ t
-  no_values (variable v) = refl
-  no_values (node c args) = ap (node c) (no_values_among args)
-
-  no_values_among : (args : Trees) → argument_instances (given []) args ≡ args
-  no_values_among none = refl
-  no_values_among (more t rest) = let first = no_values t in let others = no_values_among rest in λ i. more (first i) (others i)
-
--- the size of a term without further sizes
-pub measured_value : (t : Tree) → size_by [] t ≡ size_of t
-measured_value t = under [] t ∙ ap size_of (no_values t)
-
-mutual
-  pub depth_below_nodes : (t : Tree) → term_depth t ≤ term_nodes t
+  depth_below_nodes : (t : Tree) → term_depth t ≤ term_nodes t
   depth_below_nodes (variable v) = omega arith
-  depth_below_nodes (node c args) = let rest = args_depth args in omega arith
+  depth_below_nodes (node c args) = omega (arith, args_depth args)
 
-  pub args_depth : (args : Trees) → argument_depth args ≤ argument_nodes args
+  args_depth : (args : Trees) → argument_depth args ≤ argument_nodes args
   args_depth none = omega arith
-  args_depth (more t rest) = let first = depth_below_nodes t in let others = args_depth rest in omega arith
-
-pub depth_of_atom : (a : AtomTree) → atom_depth a ≤ atom_nodes a
-depth_of_atom a = let below = args_depth a.args in omega arith
+  args_depth (more t rest) = omega (arith, depth_below_nodes t, args_depth rest)
 
 -- A value has at most so many nodes.
 abbrev pub IsBelow : ℕ → Tree → Type 0
@@ -158,7 +99,7 @@ bounded_at most values v w some all = grind arith
 
 mutual
   bounded : (most : ℕ) (values : List Tree) → 1 ≤ most → AllByRecursion (IsBelow most) values → (t : Tree) → term_nodes (term_instance (given values) t) ≤ term_nodes t * most
-  bounded most values some all (variable v) = let at = bounded_at most values v v some all in omega arith
+  bounded most values some all (variable v) = omega (arith, bounded_at most values v v some all)
   bounded most values some all (node c args) = grind (arith, bounded_all most values some all args, add-mul 1 (argument_nodes args) most)
 
   bounded_all : (most : ℕ) (values : List Tree) → 1 ≤ most → AllByRecursion (IsBelow most) values → (args : Trees) → argument_nodes (argument_instances (given values) args) ≤ argument_nodes args * most
@@ -169,17 +110,9 @@ mutual
 pub instance_bounded : (most : ℕ) (values : List Tree) → 1 ≤ most → AllByRecursion (IsBelow most) values → (a : AtomTree) → atom_nodes (full_instance values a) ≤ atom_nodes a * most
 instance_bounded most values some all a = grind (arith, bounded_all, add-mul, a.args)
 
-module _ (values : List Tree) (sizes : List Size) (a : AtomTree) (same : sizes ≡ map size_of values) where
-  -- the nodes and the levels of an instance
-  pub instance_nodes : (one_more (size_among sizes a.args)).nodes ≡ capped (atom_nodes (full_instance values a))
-  instance_nodes = ap (λ (size : Size). capped (size.nodes + 1)) (measured_args values sizes a.args same) ∙ (omega arith)
-
-  pub instance_levels : (one_more (size_among sizes a.args)).depth ≡ capped (atom_depth (full_instance values a))
-  instance_levels = ap (λ (size : Size). capped (size.depth + 1)) (measured_args values sizes a.args same) ∙ (omega arith)
-
 -- one value more
 pub next_size : (values : List Tree) (n : ℕ) (t : Tree) (sizes : List Size) → sizes ≡ map size_of (take n values) → slice_get values n ≡ Some t → sizes ++ size_by [] t ∷ [] ≡ map size_of (take (n + 1) values)
-next_size values n t sizes so_far is = grind (arith, measured_value t, map_last size_of (take n values) t, take_next values n t is)
+next_size values n t sizes so_far is = grind (arith, under [] t, term_alone t, map_last size_of (take n values) t, take_next values n t is)
 
 -- The copies and the nodes of the state after a step, from what comes and what goes.
 
@@ -187,31 +120,21 @@ next_size values n t sizes so_far is = grind (arith, measured_value t, map_last 
 pub nodes_next : (atoms : List AtomTree) (n : ℕ) (a : AtomTree) (sum nodes : ℕ) → sum ≡ sum_by atom_nodes (take n atoms) → slice_get atoms n ≡ Some a → nodes ≡ atom_nodes a → sum + nodes ≡ sum_by atom_nodes (take (n + 1) atoms)
 nodes_next atoms n a sum nodes so_far is same = grind (arith, take_next atoms n a is, sum_by_push atom_nodes (take n atoms) a)
 
--- what is counted is fit where the number is
-fit_by_size : (a : AtomTree) (size : Size) → size.nodes ≡ capped (atom_nodes a) → size.depth ≡ capped (atom_depth a) → (size.nodes ≤ MOST_NODES) × (size.depth ≤ MOST_DEPTH) → IsFit a
-fit_by_size a size nodes depth fit = let few = fit.0 in let low = fit.1 in record { nodes = omega arith; depth = omega arith }
-
 -- one atom more is fit
 pub fit_next : (atoms : List AtomTree) (n : ℕ) (a : AtomTree) (size : Size) → AllByRecursion IsFit (take n atoms) → slice_get atoms n ≡ Some a → size.nodes ≡ capped (atom_nodes a) → size.depth ≡ capped (atom_depth a) → (size.nodes ≤ MOST_NODES) × (size.depth ≤ MOST_DEPTH) → AllByRecursion IsFit (take (n + 1) atoms)
-fit_next atoms n a size so_far is nodes depth fit = grind (arith, take_next atoms n a is, both_all, fit_by_size a size nodes depth fit)
+fit_next atoms n a size so_far is nodes depth fit = grind (arith, take_next atoms n a is, both_all, fit.0, fit.1)
 
 -- a size that is too large is that of an atom that is
 pub beyond : (a : AtomTree) (size : Size) (number : ℕ) → size.nodes ≡ capped (atom_nodes a) → size.depth ≡ capped (atom_depth a) → ((MOST_NODES < size.nodes) × (number ≡ size.nodes)) ⊎ ((size.nodes ≤ MOST_NODES) × (MOST_DEPTH < size.depth) × (number ≡ size.depth)) → IsBeyond a number
-beyond a size number nodes depth over = grind (arith, depth_of_atom)
+beyond a size number nodes depth over = grind (arith, args_depth a.args)
 
 -- what is beyond a limit is not fit
-not_fit : (a : AtomTree) (number : ℕ) → IsBeyond a number → ¬ IsFit a
-not_fit a number over = λ fit. let few = fit.nodes in let low = fit.depth in ⊎_elim (λ many. let more' = many.0 in absurd (omega arith)) (λ high. let more' = high.1 in absurd (omega arith)) over
-
 pub not_all_fit : (atoms : List AtomTree) (number : ℕ) → IsFirstUnfit IsBeyond atoms number → ¬ AllByRecursion IsFit atoms
-not_all_fit atoms number first = λ fit. not_fit first.atom number first.over (holds_at IsFit atoms first.place first.atom fit first.there)
+not_all_fit atoms number first fit = grind (arith, holds_at IsFit atoms first.place first.atom fit first.there, first.over)
 
 -- where all nodes can be counted, the number is exact
-too_large : (a : AtomTree) (number : ℕ) → atom_nodes a < 2 ^ 64 → IsBeyond a number → IsTooLarge a number
-too_large a number few over = ⊎_elim (λ many. let is = many.1 in inl (many.0, omega arith)) (λ high. inr high) over
-
 pub exact : (atoms : List AtomTree) (number : ℕ) → AllByRecursion (λ a. atom_nodes a < 2 ^ 64) atoms → IsFirstUnfit IsBeyond atoms number → IsFirstUnfit IsTooLarge atoms number
-exact atoms number all first = grind (arith, too_large, holds_at, first.place, first.atom, first.there, first.before, first.over)
+exact atoms number all first = grind (arith, holds_at, first.place, first.atom, first.there, first.before, first.over)
 
 module _ (laws : BagLaws) (state : Multiset) (taken gains : List AtomTree) (can : CanWeigh state taken gains) where
   taken_bag : IsBag (gathered taken)
@@ -219,29 +142,12 @@ module _ (laws : BagLaws) (state : Multiset) (taken gains : List AtomTree) (can 
 
   -- copies and nodes that go and come
   pub edit_copies : (copies_in (sum_of (difference_of state (gathered taken)) (gathered gains)) + length taken ≡ copies_in state + length gains) × (length taken ≤ copies_in state)
-  edit_copies =
-      let before = ap (λ (bag : Multiset). copies_in bag) (sym (laws.taken_and_added state (gathered taken) can.bag taken_bag can.contained)) in
-      let parted = laws.sum_copies (difference_of state (gathered taken)) (gathered taken) in
-      let many = laws.gathered_copies taken in
-      let further = laws.gathered_copies gains in
-      let after = laws.sum_copies (difference_of state (gathered taken)) (gathered gains) in
-      ((omega arith), (omega arith))
+  edit_copies = grind (arith, laws.taken_and_added state (gathered taken) can.bag taken_bag can.contained, laws.sum_copies, laws.gathered_copies)
 
   pub edit_nodes : (nodes_in_all (sum_of (difference_of state (gathered taken)) (gathered gains)) + sum_by atom_nodes taken ≡ nodes_in_all state + sum_by atom_nodes gains) × (sum_by atom_nodes taken ≤ nodes_in_all state)
-  edit_nodes =
-      let before = ap (λ (bag : Multiset). nodes_in_all bag) (sym (laws.taken_and_added state (gathered taken) can.bag taken_bag can.contained)) in
-      let parted = laws.sum_nodes (difference_of state (gathered taken)) (gathered taken) in
-      let many = laws.gathered_nodes taken in
-      let further = laws.gathered_nodes gains in
-      let after = laws.sum_nodes (difference_of state (gathered taken)) (gathered gains) in
-      ((omega arith), (omega arith))
+  edit_nodes = grind (arith, laws.taken_and_added state (gathered taken) can.bag taken_bag can.contained, laws.sum_nodes, laws.gathered_nodes)
 
 -- What is known of a rule with values by which there is a step.
-
--- what holds of the instances of all atoms holds of those of the linear ones
-all_linear : (P : AtomTree → Type 0) (signature : Signature) (values : List Tree) (atoms : List AtomTree) → AllByRecursion P (full_instances values atoms) → AllByRecursion P (full_instances values (without (is_fact signature) atoms))
-all_linear P signature values [] all = tt
-all_linear P signature values (a ∷ atoms) all = grind (arith, all_linear P signature values atoms all.1, all.1, all.0)
 
 -- what holds of the instances of all premises holds of those that pass a test
 all_passing : (P : AtomTree → Type 0) (test : PremiseTree → Bool) (values : List Tree) (premises : List PremiseTree) → AllByRecursion P (full_instances values (premise_atoms premises)) → AllByRecursion P (full_instances values (premise_atoms (filter test premises)))
@@ -255,11 +161,8 @@ in_range laws signature kinds values are atoms all = grind (arith, all_weaker, l
 -- instances by small values have so few nodes that they can be counted
 few_nodes : (values : List Tree) → AllByRecursion IsSmallTerm values → (atoms : List AtomTree) → AllByRecursion IsSmallPattern atoms → AllByRecursion (λ a. atom_nodes a < 2 ^ 64) (full_instances values atoms)
 few_nodes values small atoms patterns =
-    all_mapped IsSmallPattern (λ a. atom_nodes a < 2 ^ 64) (full_instance values) atoms
-    (λ a (few : IsSmallPattern a).
-    let most = instance_bounded MOST_NODES values (omega arith) (all_weaker IsSmallTerm (IsBelow MOST_NODES) values (λ t (h : IsSmallTerm t). h.nodes) small) a in
-    omega arith)
-    patterns
+    let below = all_weaker IsSmallTerm (IsBelow MOST_NODES) values (λ t h. h.nodes) small in
+    all_mapped IsSmallPattern _ (full_instance values) atoms (λ a few. grind (arith, few, instance_bounded MOST_NODES values (omega arith) below a)) patterns
 
 -- what is known of a step that can be done
 pub ready : (program : Parts) (rule : Rule) (values : List Tree) (spot : Spot) → IsProgram program → IsSpotOf program spot → CanStep program rule values spot.state → IsReady program rule values spot
@@ -274,6 +177,10 @@ ready program rule values spot kept here can = record {
   here = here;
 }
 
+-- a state that is too full does not fit
+not_fitting : (state : Multiset) (number : ℕ) → IsTooFull state number → ¬ Fits state
+not_fitting state number full fits = grind (arith, fits.copies, fits.nodes)
+
 module _ (laws : StepLaws) (program : Parts) (rule : Rule) (values : List Tree) (spot : Spot) (is : IsReady program rule values spot) where
   needed_fit : AllByRecursion IsFit (full_instances values (needed_of rule))
   needed_fit = grind (arith, all_of, is.here.is_state.each, laws.there, program.signature, spot.state, is.contained)
@@ -283,27 +190,16 @@ module _ (laws : StepLaws) (program : Parts) (rule : Rule) (values : List Tree) 
   exact_number number first small = exact (full_instances values rule.right) number (few_nodes values small rule.right is.small.right_nodes) first
 
   pub taken_fit : AllByRecursion IsFit (taken_by program.signature rule values)
-  taken_fit = all_linear IsFit program.signature values (needed_of rule) needed_fit
+  taken_fit = all_kept IsFit (full_instance values) (λ a. not (is_fact program.signature a)) (needed_of rule) needed_fit
 
   pub added_fit : MakesFit rule values → AllByRecursion IsFit (added_by program.signature rule values)
-  added_fit fit =
-      subst (AllByRecursion IsFit) (sym (map-append (full_instance values) rule.right (without (is_fact program.signature) (kept_of program.signature rule))))
-      (both_all IsFit (full_instances values rule.right) (full_instances values (without (is_fact program.signature) (kept_of program.signature rule))) fit
-      (all_linear IsFit program.signature values (kept_of program.signature rule) (all_passing IsFit (λ premise. premise.kept || is_fact program.signature premise.atom) values rule.premises needed_fit)))
-
-  pub few_taken : length (taken_by program.signature rule values) ≤ MOST_PREMISES
-  few_taken = grind (arith, length-map, few_pass, is.small.premises, program.signature, rule.premises)
+  added_fit fit = grind (arith, map-append, both_all, rule.right, fit, all_kept IsFit (full_instance values) (λ a. not (is_fact program.signature a)) (kept_of program.signature rule) (all_passing IsFit (λ premise. premise.kept || is_fact program.signature premise.atom) values rule.premises needed_fit))
 
   pub few_added : length (added_by program.signature rule values) ≤ MOST_PREMISES + MOST_RIGHT
   few_added = grind (arith, length-map, length-append, few_pass, is.small.premises, is.small.right, rule.right, program.signature, rule.premises)
 
--- What is taken, added and gained is the change of a step.
+  -- What is taken, added and gained is the change of a step.
 
--- a state that is too full does not fit
-not_fitting : (state : Multiset) (number : ℕ) → IsTooFull state number → ¬ Fits state
-not_fitting state number full = λ fits. let few = fits.copies in let few' = fits.nodes in ⊎_elim (λ copies. let over = copies.0 in absurd (omega arith)) (λ nodes. let over = nodes.1 in absurd (omega arith)) full
-
-module _ (laws : StepLaws) (program : Parts) (rule : Rule) (values : List Tree) (spot : Spot) (is : IsReady program rule values spot) where
   abbrev is_one_fact : AtomTree → Bool
   is_one_fact = is_fact program.signature
 
@@ -314,7 +210,7 @@ module _ (laws : StepLaws) (program : Parts) (rule : Rule) (values : List Tree) 
   added_ground added same = rw same (laws.added_ground program.signature rule values is.typed is.are)
 
   pub taken_few : (taken : List AtomTree) → taken ≡ taken_by program.signature rule values → length taken ≤ MOST_PREMISES
-  taken_few taken same = rw same (few_taken laws program rule values spot is)
+  taken_few taken same = rw same (grind (arith, length-map, few_pass, is.small.premises, program.signature, rule.premises))
 
   module _ (taken added : List AtomTree) (listed : Option (List AtomTree)) (taken_is : taken ≡ taken_by program.signature rule values) (added_is : added ≡ added_by program.signature rule values) (gains_are : unwrap_or listed added ≡ gained is_one_fact spot.state added) (fit : MakesFit rule values) where
     abbrev gains : List AtomTree
@@ -336,10 +232,10 @@ module _ (laws : StepLaws) (program : Parts) (rule : Rule) (values : List Tree) 
       fits = is.here.fits;
       contained = contained;
       taken_ground = taken_ground taken taken_is;
-      taken_fit = rw taken_is (taken_fit laws program rule values spot is);
-      gains_fit = rw gains_are (all_of IsFit (gained is_one_fact spot.state added) (λ a there. all_at IsFit added a (rw added_is (added_fit laws program rule values spot is fit)) (laws.bags.gained_among is_one_fact spot.state added a there)));
+      taken_fit = rw taken_is (taken_fit);
+      gains_fit = rw gains_are (all_of IsFit (gained is_one_fact spot.state added) (λ a there. all_at IsFit added a (rw added_is (added_fit fit)) (laws.bags.gained_among is_one_fact spot.state added a there)));
       few_taken = taken_few taken taken_is;
-      few_gains = omega (arith, ap length gains_are, laws.bags.gained_few is_one_fact spot.state added, ap length added_is, few_added laws program rule values spot is);
+      few_gains = omega (arith, ap length gains_are, laws.bags.gained_few is_one_fact spot.state added, ap length added_is, few_added);
     }
 
     -- no fact is taken, so what is left gains what the state does
@@ -350,10 +246,7 @@ module _ (laws : StepLaws) (program : Parts) (rule : Rule) (values : List Tree) 
     after = grind (arith, gains_by, taken_ground, added_ground, spot.state, laws.gain, program.signature, is.here.is_state.bag, is.here.is_state.once, laws.bags.gathered_kept)
 
     step : Step program.signature rule values spot.state new_state
-    step = subst (Step program.signature rule values spot.state) (sym after)
-        (subst (λ (atoms : List AtomTree). Step program.signature rule values spot.state (state_after program.signature spot.state (gathered atoms) added)) (sym taken_is)
-        (subst (λ (atoms : List AtomTree). Step program.signature rule values spot.state (state_after program.signature spot.state (gathered (taken_by program.signature rule values)) atoms)) (sym added_is)
-        (laws.edit program.signature rule values spot.state is.typed is.are is.here.is_state is.contained)))
+    step = rw (after, taken_is, added_is) (laws.edit program.signature rule values spot.state is.typed is.are is.here.is_state is.contained)
 
     pub too_full : (number : ℕ) → IsTooFull new_state number → IsWeighed program rule values spot (Passes State number)
     too_full number full = ((fit, (new_state, step, not_fitting new_state number full)), λ small. (new_state, step, full))

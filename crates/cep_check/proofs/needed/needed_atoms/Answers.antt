@@ -1,17 +1,12 @@
-use Rattle.std.proofs.Common.{List, [], ◌∷◌, ◌++◌, length, sym, ap, ◌∙◌}
-use Rattle.cep_base.proofs.Lists.{holds_at_mapped}
-use Rattle.cep_term.specs.Tree.{AtomTree, IsAtomInRange}
-use Rattle.cep_rule.specs.Patterns.{premise_of}
-use Rattle.cep_rule.specs.Instances.{full_instance}
-use Rattle.cep_check.proofs.Parted.{atom_in, next_needed}
+use Rattle.std.proofs.Common.{length, arith}
+use Rattle.std.proofs.lemmas.List.{map-append}
+use Rattle.cep_base.proofs.Lists.{holds_at_mapped, take_next}
+use Rattle.cep_term.specs.Tree.{IsAtomInRange}
+use Rattle.cep_rule.specs.Patterns.{PremiseTree}
 use Rattle.cep_check.proofs.needed.needed_atoms.Goals as goal
 
 pub instance-requires : goal.instance-requires
-instance-requires c = holds_at_mapped (IsAtomInRange (length c.args.values.now)) atom_in c.args.rule.now.premises c.loop-i.i (premise_of c.get.result.now) c.requires c.get.ensures
+instance-requires c = holds_at_mapped (IsAtomInRange (length c.args.values.now)) (λ (p : PremiseTree). p.atom) c.args.rule.now.premises _ _ c.requires c.get.ensures
 
 pub loop-i-preserved : goal.loop-i-preserved
-loop-i-preserved c =
-    c.in_ok-push.ensures.ok
-    ∙ ap (λ (a : AtomTree). c.loop-i.atoms ++ a ∷ []) c.in_ok-instance.ensures
-    ∙ ap (λ (atoms : List AtomTree). atoms ++ full_instance c.args.values.now (premise_of c.get.result.now).atom ∷ []) c.loop-i.invariant
-    ∙ sym (next_needed c.args.values.now c.args.rule.now.premises c.loop-i.i (premise_of c.get.result.now) c.get.ensures)
+loop-i-preserved c = grind (arith, take_next c.args.rule.now.premises _ _ c.get.ensures, map-append)

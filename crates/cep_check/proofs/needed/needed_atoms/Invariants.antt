@@ -1,7 +1,6 @@
 use Rattle.std.proofs.Common.{◌≡◌, map, take}
 use Rattle.cep_rule.specs.Instances.{full_instances}
-use Rattle.cep_check.proofs.Parted.{atom_in}
 use Rattle.cep_check.proofs.needed.needed_atoms.Given as goal
 
 abbrev pub invariant-loop-i : goal.invariant-loop-i
-invariant-loop-i l = l.atoms ≡ full_instances l.values (map atom_in (take l.i l.rule.premises))
+invariant-loop-i l = l.atoms ≡ full_instances l.values (map (λ premise. premise.atom) (take l.i l.rule.premises))

@@ -11,18 +11,10 @@ pub returns-in_err-number-in-NoRule-clause-err : goal.returns-in_err-number-in-N
 unfolding refused_text
 returns-in_err-number-in-NoRule-clause-err c = grind (arith, common_steps, append_assoc)
 
-pub returns-in_ok-number-in-Line-clause-err : goal.returns-in_ok-number-in-Line-clause-err
+pub returns-in_ok-number-in-Line : goal.returns-in_ok-number-in-Line
 unfolding refused_text
-returns-in_ok-number-in-Line-clause-err c = grind (arith, common_steps, append_assoc)
+returns-in_ok-number-in-Line c = grind (arith, common_steps, append_assoc)
 
-pub returns-in_ok-number-in-Line-clause-ok : goal.returns-in_ok-number-in-Line-clause-ok
+pub returns-in_ok-number-in-NoRule : goal.returns-in_ok-number-in-NoRule
 unfolding refused_text
-returns-in_ok-number-in-Line-clause-ok c = grind (arith, common_steps, append_assoc)
-
-pub returns-in_ok-number-in-NoRule-clause-err : goal.returns-in_ok-number-in-NoRule-clause-err
-unfolding refused_text
-returns-in_ok-number-in-NoRule-clause-err c = grind (arith, common_steps, append_assoc)
-
-pub returns-in_ok-number-in-NoRule-clause-ok : goal.returns-in_ok-number-in-NoRule-clause-ok
-unfolding refused_text
-returns-in_ok-number-in-NoRule-clause-ok c = grind (arith, common_steps, append_assoc)
+returns-in_ok-number-in-NoRule c = grind (arith, common_steps, append_assoc)

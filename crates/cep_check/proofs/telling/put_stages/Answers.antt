@@ -3,13 +3,9 @@ use Rattle.std.proofs.Common.{append_assoc, arith}
 use Rattle.std.proofs.lemmas.Grind.{common_steps}
 use Rattle.cep_check.proofs.telling.put_stages.Goals as goal
 
-pub returns-clause-err : goal.returns-clause-err
+pub returns : goal.returns
 unfolding stages_text
-returns-clause-err c = grind (arith, common_steps, append_assoc)
-
-pub returns-clause-ok : goal.returns-clause-ok
-unfolding stages_text
-returns-clause-ok c = grind (arith, common_steps, append_assoc)
+returns c = grind (arith, common_steps, append_assoc)
 
 pub returns-in_err-append-2-clause-err : goal.returns-in_err-append-2-clause-err
 unfolding stages_text

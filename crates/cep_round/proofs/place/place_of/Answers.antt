@@ -1,5 +1,4 @@
-use Rattle.std.proofs.Common.{rules, arith}
-use Rattle.std.proofs.lemmas.Grind.{common_steps}
+use Rattle.std.proofs.Common.{rules}
 use Rattle.cep_round.proofs.place.place_of.Goals as goal
 
 pub loop-place-init : goal.loop-place-init

@@ -1,37 +1,22 @@
-use Rattle.std.proofs.Common.{◌+◌, ◌*◌, ap, ◌∙◌, arith}
-use Rattle.cep_term.specs.Tree.{atom_of}
-use Rattle.cep_step.proofs.Entries.{next_entry, first_entries, atom_within, all_entries}
+use Rattle.std.proofs.Common.{◌+◌, arith}
+use Rattle.std.specs.FinMap.{len-entries}
+use Rattle.std.specs.FinMap as finite
+use Rattle.std.proofs.lemmas.List.{take_all}
+use Rattle.std.proofs.lemmas.List.Sums.{sum_by-take-le}
+use Rattle.cep_step.proofs.Entries.{entry_nodes, next_entry, atom_within}
 use Rattle.cep_step.proofs.counting.nodes_in_state.Goals as goal
 
 pub nodes-requires : goal.nodes-requires
-nodes-requires c =
-    let most = c.requires.nodes in
-    let within = atom_within c.args.state.now c.loop-i.i (atom_of c.entry-copies.result.0.now) c.entry-copies.result.1 c.len-i-end.ensures.kept c.entry-copies.ensures in
-    omega arith
+nodes-requires c = grind (arith, c.requires.nodes, atom_within)
 
 pub overflow_mul-sum : goal.overflow_mul-sum
-overflow_mul-sum c =
-    let most = c.requires.nodes in
-    let next = next_entry c.args.state.now c.loop-i.i (atom_of c.entry-copies.result.0.now) c.entry-copies.result.1 c.entry-copies.ensures in
-    let first = first_entries c.args.state.now (c.loop-i.i + 1) in
-    let same = ap (λ n. c.entry-copies.result.1 * n) c.nodes.ensures in
-    omega arith
+overflow_mul-sum c = grind (arith, c.requires.nodes, next_entry _ _ _ _ c.entry-copies.ensures, sum_by-take-le entry_nodes (finite.entries c.args.state.now) (c.loop-i.i + 1))
 
 pub overflow_add-sum : goal.overflow_add-sum
-overflow_add-sum c =
-    let most = c.requires.nodes in
-    let so_far = c.loop-i.invariant in
-    let next = next_entry c.args.state.now c.loop-i.i (atom_of c.entry-copies.result.0.now) c.entry-copies.result.1 c.entry-copies.ensures in
-    let first = first_entries c.args.state.now (c.loop-i.i + 1) in
-    let same = ap (λ n. c.entry-copies.result.1 * n) c.nodes.ensures in
-    omega arith
+overflow_add-sum c = grind (arith, c.requires.nodes, next_entry _ _ _ _ c.entry-copies.ensures, sum_by-take-le entry_nodes (finite.entries c.args.state.now) (c.loop-i.i + 1))
 
 pub loop-i-preserved : goal.loop-i-preserved
-loop-i-preserved c =
-    let so_far = c.loop-i.invariant in
-    let next = next_entry c.args.state.now c.loop-i.i (atom_of c.entry-copies.result.0.now) c.entry-copies.result.1 c.entry-copies.ensures in
-    let same = ap (λ n. c.entry-copies.result.1 * n) c.nodes.ensures in
-    omega arith
+loop-i-preserved c = grind (arith, next_entry _ _ _ _ c.entry-copies.ensures)
 
 pub returns : goal.returns
-returns c = c.loop-i.invariant ∙ all_entries c.args.state.now c.loop-i.i (omega arith)
+returns c = grind (arith, take_all, len-entries)

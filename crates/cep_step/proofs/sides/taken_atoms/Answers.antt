@@ -1,19 +1,15 @@
-use Rattle.std.proofs.Common.{List, [], ◌∷◌, ◌++◌, cond, ap, ◌∙◌, arith}
-use Rattle.std.proofs.lemmas.List.{take_all}
-use Rattle.cep_rule.specs.Patterns.{PremiseTree, premise_of}
-use Rattle.cep_rule.specs.Instances.{full_instances}
-use Rattle.cep_step.proofs.Ready.{linear_among, linear_next, more_behind, premise_within}
+use Rattle.std.proofs.Common.{arith}
+use Rattle.std.proofs.lemmas.List.{map-append, take_all}
+use Rattle.std.proofs.lemmas.List.Elements.{filter-append}
+use Rattle.cep_base.proofs.Lists.{take_next}
+use Rattle.cep_step.proofs.Ready.{premise_within}
 use Rattle.cep_step.proofs.sides.taken_atoms.Goals as goal
 
 pub push_if-requires : goal.push_if-requires
-push_if-requires c = premise_within c.args.values.now c.args.rule.now.premises c.loop-i.i (premise_of c.get-premise.result.now) c.requires c.get-premise.ensures
+push_if-requires c = premise_within _ _ _ _ c.requires c.get-premise.ensures
 
 pub loop-i-preserved : goal.loop-i-preserved
-loop-i-preserved c =
-    more_behind c.args.values.now [] _ _ _ c.loop-i.atoms _ (linear_next c.args.signature.now c.args.rule.now.premises c.loop-i.i (premise_of c.get-premise.result.now) c.get-premise.ensures) c.loop-i.invariant
-    (c.in_ok-push_if.ensures ∙ ap (λ wanted. c.loop-i.atoms ++ full_instances c.args.values.now (cond wanted ((premise_of c.get-premise.result.now).atom ∷ []) [])) c.is_linear-linear.ensures)
+loop-i-preserved c = grind (arith, take_next c.args.rule.now.premises _ _ c.get-premise.ensures, filter-append, map-append)
 
 pub returns : goal.returns
-returns c =
-    c.loop-i.invariant
-    ∙ ap (λ (premises : List PremiseTree). full_instances c.args.values.now (linear_among c.args.signature.now premises)) (take_all c.loop-i.i c.args.rule.now.premises (omega arith))
+returns c = grind (arith, take_all)
