@@ -1,11 +1,11 @@
 -- Bytes have one log at most, or else one first misfit.
-use Rattle.std.proofs.Common.{◌≡◌, ◌⊎◌, inl, inr, ℕ, ◌+◌, List, [], ◌∷◌, ◌++◌, length, Some, sym, ◌∙◌, subst, arith}
+use Rattle.std.proofs.Common.{◌≡◌, ◌⊎◌, inl, inr, ℕ, ◌+◌, List, [], ◌∷◌, ◌++◌, length, sym, ◌∙◌, subst, arith}
 use Rattle.cep_base.proofs.Lists.{none_some, some_same}
 use Rattle.cep_rule.specs.declared.parts.Parts.{Parts}
 use Rattle.cep_log.proofs.Cuts.{one_cut}
 use Rattle.cep_log.proofs.LineKindLemmas.{OneValue, one_way, one_passed}
 use Rattle.cep_log.specs.declared.so_far.SoFar.TheVariants.{Nothing}
-use Rattle.cep_log.specs.Transcript.{MovesOn, Leads, said_by, HasLog, HasMisfit, IsFirstMisfit, StopsEarly, IsFaultOf}
+use Rattle.cep_log.specs.Transcript.{MovesOn, Leads, HasLog, HasMisfit, IsFirstMisfit, StopsEarly, IsFaultOf}
 use Rattle.cep_log.specs.declared.so_far.SoFar.{SoFar}
 use Rattle.cep_log.specs.declared.fault.LogFault.{LogFault}
 use Rattle.cep_log.specs.declared.log.Log.{Log}
@@ -21,28 +21,19 @@ leads_through program n (first ∷ before) line behind old new leads =
 -- the line that leads nowhere is on no way
 no_way : (program : Parts) (laws : OneValue program) (lines : List (List ℕ)) (fault : LogFault) (new : SoFar) → IsFirstMisfit program lines fault → Leads program 1 lines Nothing new → ⊥
 no_way program laws lines fault new misfit leads =
-    let through = leads_through program 1 misfit.before misfit.line misfit.behind Nothing new (subst (λ all. Leads program 1 all Nothing new) misfit.cut leads) in
-    let same : through.0 ≡ misfit.so_far = one_way program laws 1 misfit.before Nothing through.0 misfit.so_far through.2 misfit.leads in
+    let through = leads_through program 1 misfit.before misfit.line misfit.behind Nothing new (rw misfit.cut at leads) in
+    let same = one_way program laws 1 misfit.before Nothing through.0 misfit.so_far through.2 misfit.leads in
     let at : 1 + length misfit.before ≡ length misfit.before + 1 = omega arith in
-    misfit.nowhere through.1 (subst (λ so_far. MovesOn program (length misfit.before + 1) misfit.line so_far through.1) same (subst (λ (m : ℕ). MovesOn program m misfit.line through.0 through.1) at through.3))
+    misfit.nowhere through.1 (rw (at, same) at through.3)
 
 pub one_log : (program : Parts) (laws : OneValue program) (bytes : List ℕ) (one other : Log) → HasLog program bytes one → HasLog program bytes other → one ≡ other
 one_log program laws bytes one other a b = grind (arith, one_cut, one_way, some_same)
 
 pub log_or_misfit : (program : Parts) (laws : OneValue program) (bytes : List ℕ) (log : Log) (fault : LogFault) → HasLog program bytes log → HasMisfit program bytes fault → ⊥
-log_or_misfit program laws bytes log fault a b = cases b.why where
-  lines : a.lines ≡ b.lines
-  lines = one_cut bytes a.lines b.lines a.cut b.cut
-
-  leads : Leads program 1 b.lines Nothing a.last
-  leads = subst (λ all. Leads program 1 all Nothing a.last) lines a.leads
-
-  cases : IsFirstMisfit program b.lines fault ⊎ StopsEarly program b.lines fault → ⊥
-  cases (inl misfit) = no_way program laws b.lines fault a.last misfit leads
-  cases (inr stops) =
-      let last : a.last ≡ stops.last = one_way program laws 1 b.lines Nothing a.last stops.last leads stops.leads in
-      let said : said_by stops.last (length b.lines) ≡ Some log = subst (λ so_far. said_by so_far (length b.lines) ≡ Some log) last (subst (λ all. said_by a.last (length all) ≡ Some log) lines a.said) in
-      none_some log (sym stops.open_still ∙ said)
+log_or_misfit program laws bytes log fault a b = cases (rw (one_cut bytes b.lines a.lines b.cut a.cut) at b.why) where
+  cases : IsFirstMisfit program a.lines fault ⊎ StopsEarly program a.lines fault → ⊥
+  cases (inl misfit) = no_way program laws a.lines fault a.last misfit a.leads
+  cases (inr stops) = none_some log (sym stops.open_still ∙ rw (one_way program laws 1 a.lines Nothing a.last stops.last a.leads stops.leads) at a.said)
 
 -- The first misfit of bytes is one.
 
@@ -75,20 +66,13 @@ one_place program laws n start (first ∷ before) (first' ∷ before') line line
     ((cc), later.1, later.2)
 
 pub one_misfit : (program : Parts) (laws : OneValue program) (bytes : List ℕ) (one other : LogFault) → HasMisfit program bytes one → HasMisfit program bytes other → one ≡ other
-one_misfit program laws bytes one other a b = cases a.why (subst (λ lines. IsFirstMisfit program lines other ⊎ StopsEarly program lines other) (sym lines) b.why) where
-  lines : a.lines ≡ b.lines
-  lines = one_cut bytes a.lines b.lines a.cut b.cut
-
+one_misfit program laws bytes one other a b = cases a.why (rw (one_cut bytes b.lines a.lines b.cut a.cut) at b.why) where
   cases : IsFirstMisfit program a.lines one ⊎ StopsEarly program a.lines one → IsFirstMisfit program a.lines other ⊎ StopsEarly program a.lines other → one ≡ other
   cases (inl x) (inl y) =
       let at : (n : ℕ) → n + 1 ≡ 1 + n = λ n. omega arith in
       let same = one_place program laws 1 Nothing x.before y.before x.line y.line x.behind y.behind x.so_far y.so_far (sym x.cut ∙ y.cut) x.leads y.leads
       (subst (λ (m : ℕ). (new : SoFar) → ¬ (MovesOn program m x.line x.so_far new)) (at (length x.before)) x.nowhere) (subst (λ (m : ℕ). (new : SoFar) → ¬ (MovesOn program m y.line y.so_far new)) (at (length y.before)) y.nowhere) in
-      let moved : IsFaultOf program (length y.before + 1) y.line y.so_far one =
-      subst (λ so_far. IsFaultOf program (length y.before + 1) y.line so_far one) same.2
-      (subst (λ line. IsFaultOf program (length y.before + 1) line x.so_far one) same.1
-      (subst (λ (before : List (List ℕ)). IsFaultOf program (length before + 1) x.line x.so_far one) same.0 x.fault_is)) in
-      one_fault program (length y.before + 1) y.line y.so_far one other moved y.fault_is
+      one_fault program (length y.before + 1) y.line y.so_far one other (rw (same.0, same.1, same.2) at x.fault_is) y.fault_is
   cases (inl x) (inr y) = absurd (no_way program laws a.lines one y.last x y.leads)
   cases (inr x) (inl y) = absurd (no_way program laws a.lines other x.last y x.leads)
   cases (inr x) (inr y) = x.fault_is ∙ sym y.fault_is

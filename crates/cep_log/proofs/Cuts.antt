@@ -1,5 +1,5 @@
 -- The lines of bytes: those that the library cuts are the lines, and there are no others.
-use Rattle.std.proofs.Common.{◌≡◌, ◌≢◌, ◌⊎◌, inl, inr, ℕ, zero, suc, ◌+◌, ◌-◌, ◌≤◌, ◌==◌, ◌&&◌, List, [], ◌∷◌, ◌++◌, length, take, drop, map, slice_index, Bool, true, refl, sym, ap, ◌∙◌, subst, arith, length-append}
+use Rattle.std.proofs.Common.{◌≡◌, ◌≢◌, ◌⊎◌, inl, inr, ℕ, zero, suc, ◌+◌, ◌-◌, ◌≤◌, ◌==◌, ◌&&◌, List, [], ◌∷◌, ◌++◌, length, take, drop, map, slice_index, true, refl, sym, ap, ◌∙◌, subst, arith, length-append}
 use Rattle.std.proofs.Math.Seq.{take-append_seam}
 use Rattle.std.specs.Prelude.{nat_lt}
 use Rattle.std.proofs.lemmas.Bool.{cond-true, cond-false, eq-eqb, ne_eqb, cases_eq, le-leb}
@@ -21,35 +21,26 @@ len_last (byte ∷ text) none = cond-false _ _ _ (ne_eqb byte 10 none.0) ∙ ap 
 
 take_line : (text rest : List ℕ) → take (suc (length text)) (text ++ 10 ∷ rest) ≡ text ++ 10 ∷ []
 take_line [] rest = refl
-take_line (byte ∷ text) rest = ap (λ bytes. byte ∷ bytes) (take_line text rest)
+take_line (byte ∷ text) rest = grind (arith, take_line text rest)
 
 drop_line : (text rest : List ℕ) → drop (suc (length text)) (text ++ 10 ∷ rest) ≡ rest
 drop_line [] rest = refl
 drop_line (byte ∷ text) rest = drop_line text rest
 
 -- the end of bytes
-length_pushed : (front : List ℕ) (last : ℕ) → length (front ++ last ∷ []) ≡ suc (length front)
-length_pushed [] last = refl
-length_pushed (byte ∷ front) last = ap suc (length_pushed front last)
-
 last_pushed : (front : List ℕ) (last : ℕ) → slice_index (front ++ last ∷ []) (length (front ++ last ∷ []) - 1) ≡ last
-last_pushed front last = ap (λ n. slice_index (front ++ last ∷ []) (n - 1)) (length_pushed front last) ∙ ap (λ n. slice_index (front ++ last ∷ []) n) (less (length front)) ∙ at front last where
-  less : (n : ℕ) → suc n - 1 ≡ n
-  less n = omega arith
-
-  at : (front : List ℕ) (last : ℕ) → slice_index (front ++ last ∷ []) (length front) ≡ last
-  at [] last = refl
-  at (byte ∷ front) last = at front last
+last_pushed [] last = grind arith
+last_pushed (byte ∷ front) last = grind (arith, length-append, last_pushed front last)
 
 front_pushed : (front : List ℕ) (last : ℕ) → take (length (front ++ last ∷ []) - 1) (front ++ last ∷ []) ≡ front
-front_pushed front last = grind (arith, length_pushed front last, take-append_seam front (last ∷ []))
+front_pushed front last = grind (arith, length-append front (last ∷ []), take-append_seam front (last ∷ []))
 
 some_pushed : (front : List ℕ) (last : ℕ) → nat_lt 0 (length (front ++ last ∷ [])) ≡ true
-some_pushed front last = le-leb 1 (length (front ++ last ∷ [])) (let h = length_pushed front last in omega arith)
+some_pushed front last = le-leb 1 (length (front ++ last ∷ [])) (omega (arith, length-append front (last ∷ [])))
 
 -- whether the last byte is this one
 ends_with : (front : List ℕ) (last stop : ℕ) → (nat_lt 0 (length (front ++ last ∷ [])) && slice_index (front ++ last ∷ []) (length (front ++ last ∷ []) - 1) == stop) ≡ (last == stop)
-ends_with front last stop = ap (λ (some : Bool). some && slice_index (front ++ last ∷ []) (length (front ++ last ∷ []) - 1) == stop) (some_pushed front last) ∙ ap (λ byte. byte == stop) (last_pushed front last)
+ends_with front last stop = rw (some_pushed front last, last_pushed front last) refl
 
 -- what the library makes of what stands before an LF
 no_cr_is : (text : List ℕ) → IsBefore (no_cr text) text
@@ -63,12 +54,10 @@ none_at_last [] last none = none.0
 none_at_last (byte ∷ front) last none = none_at_last front last none.1
 
 last_is_whole : (byte : ℕ) (bytes : List ℕ) → HasNone 10 (byte ∷ bytes) → without_terminator (byte ∷ bytes) ≡ byte ∷ bytes
-last_is_whole byte bytes none = cases (has_last (byte ∷ bytes)) where
-  cases : (byte ∷ bytes ≡ []) ⊎ ((front : List ℕ) × (last : ℕ) × (byte ∷ bytes ≡ front ++ last ∷ [])) → without_terminator (byte ∷ bytes) ≡ byte ∷ bytes
-  cases (inl e) = absurd cc
-  cases (inr some) =
-      let other = none_at_last some.0 some.1 (subst (HasNone 10) some.2 none) in
-      subst (λ text. without_terminator text ≡ text) (sym some.2) (cond-false _ _ _ (ends_with some.0 some.1 10 ∙ ne_eqb some.1 10 other))
+last_is_whole byte bytes none = elim (has_last (byte ∷ bytes)) [
+  | inl e ↦ absurd cc
+  | inr some ↦ subst (λ text. without_terminator text ≡ text) (sym some.2) (cond-false _ _ _ (ends_with some.0 some.1 10 ∙ ne_eqb some.1 10 (none_at_last some.0 some.1 (subst (HasNone 10) some.2 none))))
+]
 
 no_lines : (fuel : ℕ) → map without_terminator (lines_from fuel []) ≡ []
 unfolding lines_from
@@ -112,10 +101,10 @@ few_from : (fuel : ℕ) (bytes : List ℕ) → length (lines_from fuel bytes) �
 unfolding lines_from
 few_from zero bytes = omega arith
 few_from (suc fuel) [] = omega arith
-few_from (suc fuel) (byte ∷ bytes) = let h = few_from fuel (drop (line_len (byte ∷ bytes)) (byte ∷ bytes)) in omega arith
+few_from (suc fuel) (byte ∷ bytes) = omega (arith, few_from fuel (drop (line_len (byte ∷ bytes)) (byte ∷ bytes)))
 
 pub few_lines : (bytes : List ℕ) → length (map without_terminator (lines_of bytes)) ≤ length bytes
-few_lines bytes = let h = few_from (length bytes) bytes in let m = length-map (lines_of bytes) without_terminator in omega arith
+few_lines bytes = omega (arith, few_from (length bytes) bytes, length-map (lines_of bytes) without_terminator)
 
 -- The lines of bytes are one list.
 

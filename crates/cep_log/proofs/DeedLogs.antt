@@ -1,12 +1,11 @@
 -- What is written of deeds is a transcript, and its log holds them.
-use Rattle.std.proofs.Common.{◌≡◌, ℕ, Bool, true, false, cond, List, [], ◌∷◌, ◌++◌, map, append_assoc, append-nil, refl, sym, ap, ◌∙◌, Option, None, Some, ◌+◌, ◌≤◌, length, subst, arith, IfSome, IsSomeAnd}
+use Rattle.std.proofs.Common.{◌≡◌, ℕ, Bool, true, false, List, [], ◌∷◌, ◌++◌, map, append_assoc, append-nil, refl, sym, ap, ◌∙◌, Option, None, Some, ◌+◌, ◌≤◌, length, subst, arith}
 use Rattle.std.proofs.lemmas.Grind.{flat_map-append}
+use Rattle.std.proofs.lemmas.List.Folds.{flat_map-map}
 use Rattle.std.proofs.lemmas.Slice.Zip.{AllZip-long}
 use Rattle.std.specs.List.{flat_map, AllZip}
-use Rattle.std.specs.Prelude.{is_some}
 use Rattle.std.specs.FinMap as finite
 use Rattle.cep_term.specs.Multiset.{Multiset}
-use Rattle.cep_term.specs.Tree.{AtomTree}
 use Rattle.cep_rule.specs.Derivations.{ProofTree}
 use Rattle.cep_rule.specs.Limits.{IsHeight}
 use Rattle.cep_rule.specs.Program.{IsProgram}
@@ -14,19 +13,19 @@ use Rattle.cep_rule.specs.declared.offer.Offer.{Offer}
 use Rattle.cep_rule.specs.declared.parts.Parts.{Parts}
 use Rattle.cep_rule.specs.Stages.{IsQuiet}
 use Rattle.cep_step.specs.Deeds.{Deed, Position, start_of, AreDeeds}
-use Rattle.cep_lines.specs.Lines.{line, version_text, has_listing, have_text, have_line, listing, height_text, stage_text, stage_line, next_line, state_text, step_text, step_line, by_text, by_line, by_lines, step_lines, mid_lines, expected_listing, deed_lines, end_text, end_lines, header}
+use Rattle.cep_lines.specs.Lines.{line, has_listing, have_text, have_line, listing, stage_text, stage_line, next_line, step_text, step_line, by_text, by_line, by_lines, step_lines, mid_lines, expected_listing, deed_lines, end_lines, header}
 use Rattle.cep_lines.specs.declared.end_word.EndWord.{EndWord}
 use Rattle.cep_lines.specs.declared.end_word.EndWord.TheVariants.{Quiet}
 use Rattle.cep_lines.specs.declared.version.Version.TheVariants.{Two}
 use Rattle.cep_log.proofs.LegalLogs.{LeadToStates, AreListings, legal_log}
 use Rattle.cep_log.proofs.WrittenLogs.{IsReadBack, few_lines, log_long}
-use Rattle.cep_log.specs.Holding.{lines_of_deed, TellDeeds, TellRun, HoldsDeed, HoldsEnd, HoldsDeeds}
+use Rattle.cep_log.specs.Holding.{lines_of_deed, TellDeeds, TellRun, HoldsDeed, HoldsDeeds}
 use Rattle.cep_log.specs.Transcript.{stage_texts, HasLog}
 use Rattle.cep_log.specs.Legal.{HaveListings, IsLegal}
 use Rattle.cep_log.specs.declared.log.LogEnd.{LogEnd}
 use Rattle.cep_log.specs.declared.log.LogMid.{LogMid}
 use Rattle.cep_log.specs.declared.log.LogStep.{LogStep}
-use Rattle.cep_log.specs.Written.{start_texts, mid_texts, step_texts, end_texts, TellSteps, TellLog, ListTheSame, SayTheSame, EndTheSame}
+use Rattle.cep_log.specs.Written.{start_texts, mid_texts, step_texts, end_texts, TellSteps, TellLog, SayTheSame}
 use Rattle.cep_log.specs.declared.log.Log.{Log}
 use Rattle.cep_base.specs.declared.limits.TheConstants.{MOST_LOG}
 
@@ -68,14 +67,10 @@ log_of program height deeds word state lines = record {
 
 -- Its lines
 
-lines_mapped : {A : Type 0} (text : A → List ℕ) (xs : List A) → flat_map (λ x. line (text x)) xs ≡ flat_map line (map text xs)
-lines_mapped text [] = refl
-lines_mapped text (x ∷ xs) = ap (λ rest. line (text x) ++ rest) (lines_mapped text xs)
-
 module _ (program : Parts) where
   listing_written : (state : Multiset) → listing program.signature state ≡ flat_map line (map (have_text program.signature) (finite.entries state))
   unfolding listing have_line
-  listing_written state = lines_mapped (have_text program.signature) (finite.entries state)
+  listing_written state = sym (flat_map-map line (have_text program.signature) (finite.entries state))
 
   next_written : (next : Option ℕ) → next_line program next ≡ flat_map line (stage_texts program next)
   unfolding stage_line
@@ -84,39 +79,27 @@ module _ (program : Parts) where
 
   step_written : (offer : Offer) (proofs : List ProofTree) (next : Option ℕ) → step_lines program offer proofs next ≡ flat_map line (step_text program offer ∷ (map (by_text program) proofs ++ stage_texts program next))
   unfolding step_lines step_line by_lines by_line
-  step_written offer proofs next =
-      let bys = map (by_text program) proofs in
-      ap (λ rest. line (step_text program offer) ++ rest)
-      (rw (lines_mapped (by_text program) proofs, next_written next, flat_map-append line bys (stage_texts program next)) refl)
+  step_written offer proofs next = rw (← flat_map-map line (by_text program) proofs, next_written next, flat_map-append line (map (by_text program) proofs) (stage_texts program next)) refl
 
   expected_written : (number : ℕ) (state : Multiset) → expected_listing program.signature number state ≡ flat_map line (mid_texts program number (mid_if (has_listing Two number) state))
   unfolding expected_listing mid_lines
-  expected_written number state = by (has_listing Two number) where
-    by : (is : Bool) → cond is (mid_lines program.signature number state) [] ≡ flat_map line (mid_texts program number (mid_if is state))
-    by true = ap (λ rest. line (state_text number) ++ rest) (listing_written state)
-    by false = refl
+  expected_written number state = grind (arith, listing_written state)
 
   pub deed_written : (deed : Deed) → lines_of_deed program deed ≡ flat_map line (step_texts program deed.after.turns (step_of deed))
   unfolding deed_lines
   deed_written deed =
       let number = deed.after.turns in
-      let state = deed.after.spot.state in
-      let bys = map (by_text program) deed.proofs in
       let stages = stage_texts program deed.rule.next in
-      let mids = mid_texts program number (mid_if (has_listing Two number) state) in
-      ap (λ own. own ++ expected_listing program.signature number state) (step_written deed.offer deed.proofs deed.rule.next)
-      ∙ ap (λ rest. flat_map line (step_text program deed.offer ∷ (bys ++ stages)) ++ rest) (expected_written number state)
-      ∙ sym (flat_map-append line (step_text program deed.offer ∷ (bys ++ stages)) mids)
-      ∙ ap (λ lines. flat_map line (step_text program deed.offer ∷ lines)) (append_assoc bys stages mids)
+      let mids = mid_texts program number (mid_if (has_listing Two number) deed.after.spot.state) in
+      rw (step_written deed.offer deed.proofs deed.rule.next, expected_written number deed.after.spot.state, ← flat_map-append line (step_text program deed.offer ∷ (map (by_text program) deed.proofs ++ stages)) mids, append_assoc (map (by_text program) deed.proofs) stages mids) refl
 
   pub header_written : (height : ℕ) (deeds : List Deed) (word : EndWord) (state : Multiset) (lines : ℕ) → header program height ≡ flat_map line (start_texts program (log_of program height deeds word state lines))
   unfolding header stage_line
-  header_written height deeds word state lines =
-      ap (λ rest. line (version_text Two) ++ (line (height_text height) ++ (line (stage_text program program.start_stage) ++ rest))) (listing_written program.start)
+  header_written height deeds word state lines = rw (listing_written program.start) refl
 
   pub end_written : (word : EndWord) (state : Multiset) → end_lines program.signature word state ≡ flat_map line (end_texts program (Some (end_of word state)))
   unfolding end_lines
-  end_written word state = ap (λ rest. line (end_text word) ++ rest) (listing_written state)
+  end_written word state = rw (listing_written state) refl
 
 -- lines after lines
 both_written : (one other : List ℕ) (lines others : List (List ℕ)) → one ≡ flat_map line lines → other ≡ flat_map line others → one ++ other ≡ flat_map line (lines ++ others)

@@ -1,5 +1,5 @@
 -- A log that holds lawful deeds is legal, and the listing of a state is read as its entries.
-use Rattle.std.proofs.Common.{◌≡◌, ◌↔◌, ℕ, ◌<◌, ◌≤◌, List, ◌∷◌, length, sym, ◌∙◌, subst, arith, Option, None, Some, IfSome, IsSome, IsSomeAnd, inl, inr, suc, ◌+◌, [], ◌++◌, map, refl, ap, append_assoc}
+use Rattle.std.proofs.Common.{◌≡◌, ◌↔◌, ℕ, ◌<◌, ◌≤◌, List, ◌∷◌, length, sym, ◌∙◌, subst, arith, Option, None, Some, IfSome, IsSome, IsSomeAnd, inr, suc, ◌+◌, [], ◌++◌, map, refl, ap, append_assoc}
 use Rattle.std.proofs.lemmas.List.{length-map, append-nil}
 use Rattle.std.specs.List.{AllByRecursion, AllZip}
 use Rattle.std.specs.declared.cmp.Ordering.TheVariants.{Less}
@@ -30,8 +30,7 @@ use Rattle.cep_log.specs.declared.log.LogEnd.{LogEnd}
 use Rattle.cep_log.specs.declared.so_far.SoFar.{SoFar}
 use Rattle.cep_log.specs.Legal.{IsListing, IsStepOf, AreLegalSteps, IsLegalEnd, IsLegal, IsHave, AtomsRise}
 use Rattle.cep_log.specs.declared.log.LogStep.{LogStep}
-use Rattle.cep_log.specs.Transcript.{IsPassedOver, IsBehind, GoesOnListing, Leads}
-use Rattle.cep_log.specs.declared.so_far.SoFar.TheVariants.{Whole, Listed, Ended}
+use Rattle.cep_log.specs.Transcript.{IsPassedOver, IsBehind, GoesOnListing, Becomes, Leads}
 use Rattle.cep_log.specs.declared.log.LogMid.{LogMid}
 use Rattle.cep_lines.specs.Lines.{have_text}
 use Rattle.cep_lines.specs.declared.end_word.EndWord.{EndWord}
@@ -44,7 +43,7 @@ use Rattle.cep_step.specs.Deeds.{Position, start_of, Deed, IsDeed, AreDeeds}
 
 -- as many are proved as there are derivations
 pub as_many_proofs : (program : Parts) (height : ℕ) (proofs : List ProofTree) (atoms : List AtomTree) → AreProofs program height proofs atoms → length proofs ≡ length atoms
-as_many_proofs program height (proof ∷ proofs) (a ∷ atoms) are = let later = as_many_proofs program height proofs atoms are.2 in omega (arith, later)
+as_many_proofs program height (proof ∷ proofs) (a ∷ atoms) are = omega (arith, as_many_proofs program height proofs atoms are.2)
 as_many_proofs program height proofs atoms are = grind arith
 
 low_proofs : (program : Parts) (height most : ℕ) → height ≤ most → (proofs : List ProofTree) (atoms : List AtomTree) → AreProofs program height proofs atoms → AllByRecursion (λ proof. proof_height proof ≤ most) proofs
@@ -86,8 +85,7 @@ module _ (lead : LeadToStates) (program : Parts) (kept : IsProgram program) (hei
     as_many = as_many_proofs program height step.proofs (full_instances step.offer.values rule.backs) is.proved ∙ length-map rule.backs (full_instance step.offer.values);
     low = low_proofs program height MOST_HEIGHT height_is.low step.proofs (full_instances step.offer.values rule.backs) is.proved;
     stage = subst (λ (named : Option ℕ). IsSome named ↔ IsSome rule.next) (sym stage) ((λ some. some), (λ some. some));
-    in_range = subst (λ (named : Option ℕ). IfSome named (λ other. other < length program.stages)) (sym stage)
-        (holds_at (λ (r : Rule). IfSome r.next (λ other. other < length program.stages)) program.rules step.offer.rule rule kept.in_range.next_stages is.numbered);
+    in_range = rw stage (holds_at (λ (r : Rule). IfSome r.next (λ other. other < length program.stages)) program.rules step.offer.rule rule kept.in_range.next_stages is.numbered);
     listing = grind arith;
   }
 
@@ -189,38 +187,16 @@ not_over signature entry e = omega arith
 goes_on : (program : Parts) (old : List (AtomTree × ℕ)) (entry : AtomTree × ℕ) (later : List (AtomTree × ℕ)) → IsListing program.signature (old ++ entry ∷ later) → GoesOnListing program (have_text program.signature entry) old (old ++ entry ∷ [])
 goes_on program old entry later is = grind (arith, have_at, behind_others, program.signature, is.each, entry.0, is.rising)
 
-moved : (signature : Signature) (old : List (AtomTree × ℕ)) (entry : AtomTree × ℕ) (later : List (AtomTree × ℕ)) → IsListing signature (old ++ entry ∷ later) → IsListing signature ((old ++ entry ∷ []) ++ later)
-moved signature old entry later is = subst (IsListing signature) (sym (append_assoc old (entry ∷ []) later)) is
-
-pub start_read : (program : Parts) (number : ℕ) (log : Log) (old entries : List (AtomTree × ℕ)) → log.steps ≡ [] → IsListing program.signature (old ++ entries)
-    → Leads program number (map (have_text program.signature) entries) (Whole (record log { start = old })) (Whole (record log { start = old ++ entries }))
-start_read program number log old [] first is = ap (λ start. Whole (record log { start = start })) (append-nil old)
-start_read program number log old (entry ∷ entries) first is = (
-  Whole (record log { start = old ++ entry ∷ [] }),
-  inr (not_over program.signature entry, inl (record { first = first; start = old ++ entry ∷ []; listed = goes_on program old entry entries is; whole = refl })),
-  subst (λ start. Leads program (number + 1) (map (have_text program.signature) entries) (Whole (record log { start = old ++ entry ∷ [] })) (Whole (record log { start = start }))) (append_assoc old (entry ∷ []) entries)
-      (start_read program (number + 1) log (old ++ entry ∷ []) entries first (moved program.signature old entry entries is)),
-)
-
-pub mid_read : (program : Parts) (number : ℕ) (log : Log) (step : LogStep) (mid : LogMid) (old entries : List (AtomTree × ℕ)) → IsListing program.signature (old ++ entries)
-    → Leads program number (map (have_text program.signature) entries) (Listed log step (record mid { state = old })) (Listed log step (record mid { state = old ++ entries }))
-mid_read program number log step mid old [] is = ap (λ state. Listed log step (record mid { state = state })) (append-nil old)
-mid_read program number log step mid old (entry ∷ entries) is = (
-  Listed log step (record mid { state = old ++ entry ∷ [] }),
-  inr (not_over program.signature entry, inl (record { state = old ++ entry ∷ []; listed = goes_on program old entry entries is; more = refl })),
-  subst (λ state. Leads program (number + 1) (map (have_text program.signature) entries) (Listed log step (record mid { state = old ++ entry ∷ [] })) (Listed log step (record mid { state = state }))) (append_assoc old (entry ∷ []) entries)
-      (mid_read program (number + 1) log step mid (old ++ entry ∷ []) entries (moved program.signature old entry entries is)),
-)
-
-pub end_read : (program : Parts) (number : ℕ) (log : Log) (end : LogEnd) (old entries : List (AtomTree × ℕ)) → IsListing program.signature (old ++ entries)
-    → Leads program number (map (have_text program.signature) entries) (Ended log (record end { state = old })) (Ended log (record end { state = old ++ entries }))
-end_read program number log end old [] is = ap (λ state. Ended log (record end { state = state })) (append-nil old)
-end_read program number log end old (entry ∷ entries) is = (
-  Ended log (record end { state = old ++ entry ∷ [] }),
-  inr (not_over program.signature entry, record { state = old ++ entry ∷ []; listed = goes_on program old entry entries is; ended = refl }),
-  subst (λ state. Leads program (number + 1) (map (have_text program.signature) entries) (Ended log (record end { state = old ++ entry ∷ [] })) (Ended log (record end { state = state }))) (append_assoc old (entry ∷ []) entries)
-      (end_read program (number + 1) log end (old ++ entry ∷ []) entries (moved program.signature old entry entries is)),
-)
+-- entry after entry, wherever a listing is gone on with
+pub listing_read : (program : Parts) (place : List (AtomTree × ℕ) → SoFar) → ((number : ℕ) (line : List ℕ) (old new : List (AtomTree × ℕ)) → GoesOnListing program line old new → Becomes program number line (place old) (place new))
+    → (number : ℕ) (old entries : List (AtomTree × ℕ)) → IsListing program.signature (old ++ entries) → Leads program number (map (have_text program.signature) entries) (place old) (place (old ++ entries))
+listing_read program place next number old [] is = ap place (append-nil old)
+listing_read program place next number old (entry ∷ entries) is =
+    let whole = append_assoc old (entry ∷ []) entries in (
+      place (old ++ entry ∷ []),
+      inr (not_over program.signature entry, next number (have_text program.signature entry) old (old ++ entry ∷ []) (goes_on program old entry entries is)),
+      rw whole at (listing_read program place next (number + 1) (old ++ entry ∷ []) entries (rw whole is)),
+    )
 
 -- Ways are joined.
 pub ways_join : (program : Parts) (number : ℕ) (lines later : List (List ℕ)) (one mid last : SoFar) → Leads program number lines one mid → Leads program (number + length lines) later mid last → Leads program number (lines ++ later) one last

@@ -1,5 +1,5 @@
 -- What lines of each kind say, and that it is one thing.
-use Rattle.std.proofs.Common.{◌≡◌, ◌≢◌, ◌⊎◌, inl, inr, ℕ, suc, ◌+◌, ◌<◌, ◌≤◌, ◌^◌, ◌&&◌, List, [], ◌∷◌, ◌++◌, length, map, Bool, true, false, Some, sym, ap, ◌∙◌, subst, arith, bytes_eq, Option, None, refl}
+use Rattle.std.proofs.Common.{◌≡◌, ◌≢◌, ◌⊎◌, inl, inr, ℕ, suc, ◌+◌, ◌<◌, ◌≤◌, ◌^◌, List, [], ◌∷◌, ◌++◌, length, map, Bool, true, false, Some, sym, ap, ◌∙◌, subst, arith, bytes_eq, Option, None, refl}
 use Rattle.std.proofs.lemmas.Bool.{false≢true}
 use Rattle.std.proofs.lemmas.Slice.Eq.{bytes_eq-Decides}
 use Rattle.std.specs.Str.{all_ascii_digits}
@@ -7,9 +7,10 @@ use Rattle.std.proofs.lemmas.Fmt.{decimal_injective, digits_decimal}
 use Rattle.std.proofs.lemmas.Option.{slice_get_within}
 use Rattle.std.proofs.lemmas.Str.Parse.{numerals_by_value, tells_all_ascii_digits}
 use Rattle.std.specs.Char.{is_ascii_digit}
-use Rattle.std.specs.Prelude.{codes, decimal, slice_get, MatchOption, Contains, IsTrue, not, ◌↔◌, MatchResult, Result, Ok, Err}
+use Rattle.std.specs.Prelude.{codes, decimal, slice_get, MatchOption, Contains, IsTrue, not, ◌↔◌}
+use Rattle.cep_base.proofs.Options.{item_at}
 use Rattle.cep_base.proofs.Lists.{none_some, some_same, holds_at}
-use Rattle.cep_base.specs.declared.limits.TheConstants.{MOST_COPIES, MOST_HEIGHT}
+use Rattle.cep_base.specs.declared.limits.TheConstants.{MOST_COPIES}
 use Rattle.cep_term.specs.Tree.{AtomTree}
 use Rattle.cep_rule.specs.Derivations.{ProofTree}
 use Rattle.cep_rule.specs.Names.{AllDiffer}
@@ -37,14 +38,11 @@ use Rattle.cep_log.specs.declared.so_far.SoFar.TheVariants.{Nothing, Begun, Heig
 -- Numbers
 
 no_space : (byte : ℕ) → is_ascii_digit byte ≡ true → byte ≢ 32
-no_space byte t e = let h : is_ascii_digit 32 ≡ true = subst (λ b. is_ascii_digit b ≡ true) e t in absurd (false≢true h)
-
-and_both : (a b : Bool) → (a && b) ≡ true → (a ≡ true) × (b ≡ true)
-and_both a b e = grind arith
+no_space byte t e = absurd (false≢true (rw e at t))
 
 digits_unspaced : (digits : List ℕ) → all_ascii_digits digits ≡ true → HasNone 32 digits
 digits_unspaced [] t = tt
-digits_unspaced (byte ∷ digits) t = (no_space byte (and_both (is_ascii_digit byte) (all_ascii_digits digits) t).0, digits_unspaced digits (and_both (is_ascii_digit byte) (all_ascii_digits digits) t).1)
+digits_unspaced (byte ∷ digits) t = grind (arith, no_space byte, digits_unspaced digits)
 
 pub decimal_unspaced : (n : ℕ) → n < 2 ^ 64 → HasNone 32 (decimal n)
 decimal_unspaced n short = digits_unspaced (decimal n) (digits_decimal (numerals_by_value (λ digits. all_ascii_digits digits ≡ true) tells_all_ascii_digits) n short)
@@ -109,62 +107,53 @@ module _ (program : Parts) (laws : OneValue program) where
   one_rule number r s a b = some_same r s (sym a ∙ b)
 
   one_own : (line : List ℕ) (log : Log) (step : LogStep) (new new' : SoFar) → GoesOnStep program line log step new → GoesOnStep program line log step new' → new ≡ new'
-  one_own line log step new new' a b = cases a.own b.own where
+  one_own line log step new new' a b = cases a.own (rw (← same_rule) at b.own) where
     same_rule : a.rule ≡ b.rule
     same_rule = one_rule step.offer.rule a.rule b.rule a.numbered b.numbered
 
-    Own : Rule → SoFar → Type 0
-    Own rule new = ((proof : ProofTree) × (length step.proofs < length rule.backs) × IsByLine program line proof × (new ≡ with_step rule log (record step { proofs = step.proofs ++ proof ∷ [] })))
-        ⊎ ((stage : ℕ) × (length rule.backs ≤ length step.proofs) × IsStageLine program line stage × (new ≡ with_step rule log (record step { stage = Some stage })))
+    Own : SoFar → Type 0
+    Own new = ((proof : ProofTree) × (length step.proofs < length a.rule.backs) × IsByLine program line proof × (new ≡ with_step a.rule log (record step { proofs = step.proofs ++ proof ∷ [] })))
+        ⊎ ((stage : ℕ) × (length a.rule.backs ≤ length step.proofs) × IsStageLine program line stage × (new ≡ with_step a.rule log (record step { stage = Some stage })))
 
-    same_backs : length a.rule.backs ≡ length b.rule.backs
-    same_backs = ap (λ rule. length rule.backs) same_rule
-
-    cases : Own a.rule new → Own b.rule new' → new ≡ new'
-    cases (inl p) (inl q) = p.3 ∙ (ap (λ rule. with_step rule log (record step { proofs = step.proofs ++ p.0 ∷ [] })) same_rule ∙ (ap (λ proof. with_step b.rule log (record step { proofs = step.proofs ++ proof ∷ [] })) (one_by line p.0 q.0 p.2 q.2) ∙ sym q.3))
-    cases (inl p) (inr q) = let h = p.1 in let k = q.1 in let s = same_backs in absurd (omega arith)
-    cases (inr p) (inl q) = let h = p.1 in let k = q.1 in let s = same_backs in absurd (omega arith)
-    cases (inr p) (inr q) = p.3 ∙ (ap (λ rule. with_step rule log (record step { stage = Some p.0 })) same_rule ∙ (ap (λ stage. with_step b.rule log (record step { stage = Some stage })) (one_stage line p.0 q.0 p.2 q.2) ∙ sym q.3))
+    cases : Own new → Own new' → new ≡ new'
+    cases (inl p) (inl q) = p.3 ∙ ap (λ proof. with_step a.rule log (record step { proofs = step.proofs ++ proof ∷ [] })) (one_by line p.0 q.0 p.2 q.2) ∙ sym q.3
+    cases (inr p) (inr q) = p.3 ∙ ap (λ stage. with_step a.rule log (record step { stage = Some stage })) (one_stage line p.0 q.0 p.2 q.2) ∙ sym q.3
+    cases (inl p) (inr q) = absurd (omega (arith, p.1, q.1))
+    cases (inr p) (inl q) = absurd (omega (arith, p.1, q.1))
 
   one_begun : (number : ℕ) (line : List ℕ) (log : Log) (new new' : SoFar) → BeginsStep program number line log new → BeginsStep program number line log new' → new ≡ new'
   one_begun number line log new new' a b = grind (arith, one_step line a.offer b.offer a.said b.said, one_rule)
 
   one_next : (number : ℕ) (line : List ℕ) (log : Log) (new new' : SoFar) → BeginsNext program number line log new → BeginsNext program number line log new' → new ≡ new'
   one_next number line log new new' (inl a) (inl b) = one_begun number line log new new' a b
+  one_next number line log new new' (inr a) (inr b) = grind (arith, one_word, a.word, b.word, a.said, b.said, a.ended, b.ended)
   one_next number line log new new' (inl a) (inr b) = absurd (step_or_end _ _ (sym a.said.written ∙ b.said))
   one_next number line log new new' (inr a) (inl b) = absurd (step_or_end _ _ (sym b.said.written ∙ a.said))
-  one_next number line log new new' (inr a) (inr b) = grind (arith, one_word, a.word, b.word, a.said, b.said, a.ended, b.ended)
 
   pub one_taken : (number : ℕ) (line : List ℕ) (old new new' : SoFar) → Becomes program number line old new → Becomes program number line old new' → new ≡ new'
   one_taken number line Nothing new new' a b = a.2 ∙ (ap Begun (one_version a.0 b.0 (sym a.1 ∙ b.1)) ∙ sym b.2)
   one_taken number line (Begun version) new new' a b = a.3 ∙ (ap (Height version) (grind (arith, decimal_injective)) ∙ sym b.3)
   one_taken number line (Height version height) new new' a b = a.2 ∙ (ap (λ stage. Whole (log_begun version height number stage)) (one_stage line a.0 b.0 a.1 b.1) ∙ sym b.2)
   one_taken number line (Whole log) new new' (inl a) (inl b) = a.whole ∙ (ap (λ start. Whole (record log { start = start })) (one_listing line log.start a.start b.start a.listed b.listed) ∙ sym b.whole)
-  one_taken number line (Whole log) new new' (inl a) (inr b) = absurd (grind (arith, have_or_step, have_or_end))
-  one_taken number line (Whole log) new new' (inr a) (inl b) = absurd (grind (arith, have_or_step, have_or_end))
   one_taken number line (Whole log) new new' (inr a) (inr b) = one_next number line log new new' a b
   one_taken number line (Within log step) new new' a b = one_own line log step new new' a b
   one_taken number line (Unlisted log step) new new' a b = a.1 ∙ sym b.1
   one_taken number line (Listed log step mid) new new' (inl a) (inl b) = a.more ∙ (ap (λ state. Listed log step (record mid { state = state })) (one_listing line mid.state a.state b.state a.listed b.listed) ∙ sym b.more)
-  one_taken number line (Listed log step mid) new new' (inl a) (inr b) = absurd (grind (arith, have_or_step, have_or_end))
-  one_taken number line (Listed log step mid) new new' (inr a) (inl b) = absurd (grind (arith, have_or_step, have_or_end))
   one_taken number line (Listed log step mid) new new' (inr a) (inr b) = one_next number line (log_listed log step mid) new new' a b
   one_taken number line (Ended log end) new new' a b = a.ended ∙ (ap (λ state. Ended log (record end { state = state })) (one_listing line end.state a.state b.state a.listed b.listed) ∙ sym b.ended)
+  one_taken number line (Whole log) new new' (inl a) (inr b) = absurd (grind (arith, have_or_step, have_or_end))
+  one_taken number line (Whole log) new new' (inr a) (inl b) = absurd (grind (arith, have_or_step, have_or_end))
+  one_taken number line (Listed log step mid) new new' (inl a) (inr b) = absurd (grind (arith, have_or_step, have_or_end))
+  one_taken number line (Listed log step mid) new new' (inr a) (inl b) = absurd (grind (arith, have_or_step, have_or_end))
 
   pub one_passed : (number : ℕ) (line : List ℕ) (old new new' : SoFar) → MovesOn program number line old new → MovesOn program number line old new' → new ≡ new'
   one_passed number line old new new' given given' = grind (arith, one_taken)
 
   pub one_way : (number : ℕ) (lines : List (List ℕ)) (old new new' : SoFar) → Leads program number lines old new → Leads program number lines old new' → new ≡ new'
   one_way number [] old new new' a b = a ∙ sym b
-  one_way number (line ∷ lines) old new new' a b = rw (one_way (number + 1) lines b.0 new new' (subst (λ next. Leads program (number + 1) lines next new) (one_passed number line old a.0 b.0 a.1 b.1) a.2) b.2)
+  one_way number (line ∷ lines) old new new' a b = one_way (number + 1) lines b.0 new new' (rw (one_passed number line old a.0 b.0 a.1 b.1) at a.2) b.2
 
 -- What lines of each kind say.
-
-pub match_none : {A : Type 0} (r : Option A) (P : Type 0) (Q : A → Type 0) → r ≡ None → P → MatchOption r P Q
-match_none r P Q e p = grind arith
-
-pub told_none : {A : Type 0} (r : Option A) (P : Type 0) → r ≡ None → MatchOption r P (λ x. Unit {0}) → P
-told_none r P e p = grind arith
 
 -- what stands after the first word of a line of a listing
 pub counted_as : (line rest word behind : List ℕ) (count : ℕ) (text : List ℕ) → line ≡ codes "have " ++ rest → rest ≡ word ++ behind → HasNone 32 word → Stops 32 behind → count ≤ MOST_COPIES → line ≡ codes "have " ++ (decimal count ++ 32 ∷ text)
@@ -178,14 +167,9 @@ have_none program line text count entry few is none said = grind (arith, one_cou
 pub same_decimal : (m n : ℕ) (word : List ℕ) → m < 2 ^ 32 → n < 2 ^ 32 → word ≡ decimal m → word ≡ decimal n → m ≡ n
 same_decimal m n word a b e f = decimal_injective m n (omega arith) (omega arith) (sym e ∙ f)
 
--- the height that the line says
-pub high_as : (line word : List ℕ) (height : ℕ) → line ≡ codes "height " ++ word → line ≡ codes "height " ++ decimal height → word ≡ decimal height
-high_as line word height is said = grind arith
-
 -- a place within a list has an item
 none_at : {A : Type 0} (xs : List A) (i : ℕ) → i < length xs → slice_get xs i ≡ None → ⊥
-none_at (x ∷ xs) (suc i) within e = none_at xs i (omega arith) e
-none_at xs i within e = grind arith
+none_at xs i within e = none_some (item_at xs i within).0 (sym e ∙ (item_at xs i within).1)
 
 stage_untold : (program : Parts) (line name : List ℕ) (stage : ℕ) → line ≡ codes "stage " ++ name → ¬ (IsStageNamed program.stages stage name) → IsStageLine program line stage → ⊥
 stage_untold program line name stage is none said = grind (arith, none_at, program.stages, said.written, said.in_range)
@@ -223,9 +207,6 @@ pub state_said : (line word written : List ℕ) (number : ℕ) (same : Bool) →
 state_said line word written number same is tells number_is = grind (arith, bytes_eq-Decides)
 
 -- The lines of steps and listings.
-
-pub told_some : {A : Type 0} (r : Option A) (x : A) (P : A → Type 0) → r ≡ Some x → MatchOption r (Unit {0}) P → P x
-told_some r x P e p = grind arith
 
 -- the one line of a listing does not stand after the others
 pub listed_none : (program : Parts) (laws : OneValue program) (line : List ℕ) (entries : List (AtomTree × ℕ)) (entry other : AtomTree × ℕ) → IsHaveLine program line entry → ¬ (IsBehind entries entry.0) → IsHaveLine program line other → IsBehind entries other.0 → ⊥
@@ -284,9 +265,3 @@ not_some r P Q other q = grind arith
 
 pub none_weaker : {A : Type 0} (r : Option A) (P P' : Type 0) → (P → P') → MatchOption r P (λ x. Unit {0}) → MatchOption r P' (λ x. Unit {0})
 none_weaker r P P' f p = grind arith
-
-pub told_ok : {A E : Type 0} (r : Result A E) (x : A) (P : A → Type 0) → r ≡ Ok x → MatchResult r P (λ e. Unit {0}) → P x
-told_ok r x P e p = grind arith
-
-pub told_err : {A E : Type 0} (r : Result A E) (x : E) (P : E → Type 0) → r ≡ Err x → MatchResult r (λ e. Unit {0}) P → P x
-told_err r x P e p = grind arith

@@ -30,7 +30,7 @@ parting stop (byte ∷ bytes) = cases (cases_eq byte stop) (parting stop bytes) 
 -- a list is empty, or it has a last item
 pub has_last : {A : Type 0} (xs : List A) → (xs ≡ []) ⊎ ((front : List A) × (last : A) × (xs ≡ front ++ last ∷ []))
 has_last [] = inl refl
-has_last (x ∷ xs) = cases (has_last xs) where
-  cases : (xs ≡ []) ⊎ ((front : List _) × (last : _) × (xs ≡ front ++ last ∷ [])) → (x ∷ xs ≡ []) ⊎ ((front : List _) × (last : _) × (x ∷ xs ≡ front ++ last ∷ []))
-  cases (inl none) = inr ([], x, ap (λ rest. x ∷ rest) none)
-  cases (inr some) = inr (x ∷ some.0, some.1, ap (λ rest. x ∷ rest) some.2)
+has_last (x ∷ xs) = elim (has_last xs) [
+  | inl none ↦ inr ([], x, ap (λ rest. x ∷ rest) none)
+  | inr some ↦ inr (x ∷ some.0, some.1, ap (λ rest. x ∷ rest) some.2)
+]

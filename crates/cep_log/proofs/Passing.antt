@@ -63,8 +63,8 @@ listing_more through program line old new is more = grind (arith, all_pushed, ri
 
 -- one step more has a listing where its number wants one
 listings_pushed : (version : Version) (number : ℕ) (steps : List LogStep) (step : LogStep) → HaveListings version number steps → is_some step.mid ≡ has_listing version (number + length steps) → HaveListings version number (steps ++ step ∷ [])
-listings_pushed version number [] step all this = (subst (λ (n : ℕ). is_some step.mid ≡ has_listing version n) (let none : length {A = LogStep} [] ≡ 0 = refl in omega arith) this, tt)
-listings_pushed version number (first ∷ steps) step all this = (all.0, listings_pushed version (number + 1) steps step all.1 (subst (λ (n : ℕ). is_some step.mid ≡ has_listing version n) (omega arith) this))
+listings_pushed version number [] step all this = grind arith
+listings_pushed version number (first ∷ steps) step all this = grind (arith, listings_pushed version (number + 1) steps step all.1)
 
 -- What was read of a log before the line of this number: no step is of this line or a later one.
 pub record IsPartOf (program : Parts) (number : ℕ) (log : Log) : Type 0 where
@@ -109,17 +109,12 @@ own_none next stage full none t = grind arith
 lacks_stage : (next : Option ℕ) (full : Bool) → full ≡ true → (full && (is_none next || false)) ≡ false → IsSome next
 lacks_stage next full f t = grind arith
 
-le_tests : (m n : ℕ) → m ≤ n → nat_le m n ≡ true
-le_tests m n h = le-leb m n h
-
 module _ (program : Parts) where
   part_later : (m n : ℕ) (log : Log) → IsPartOf program m log → m ≤ n → IsPartOf program n log
   part_later m n log part h = record { height = part.height; stage = part.stage; start = part.start; steps = part.steps; listed = part.listed; few = let few = part.few in omega arith }
 
   with_listing : (n : ℕ) (log : Log) (step : LogStep) (mid : LogMid) → IsPartOf program n log → suc (length log.steps) < n → IsUnlistedOf program log step → IsListing program.signature mid.state → IsPartOf program n (log_listed log step mid)
-  with_listing n log step mid part few is listing =
-      let of = is.of_program in
-      (grind (arith, all_pushed, listings_pushed, length-append))
+  with_listing n log step mid part few is listing = grind (arith, all_pushed, listings_pushed, length-append, is.of_program)
 
   -- a step with all other own lines is whole, or it lacks its listing
   owned : (n : ℕ) (log : Log) (step : LogStep) → IsPartOf program n log → log.end ≡ None → suc (length log.steps) < suc n → IsStepOf program step → step.mid ≡ None → IsReadOf program (suc n) (with_own log step)
@@ -137,16 +132,15 @@ module _ (program : Parts) where
     cases : (own : Bool) → has_own_lines rule step ≡ own → IsReadOf program (suc n) (if own then with_own log step else Within log step)
     cases true t =
         let own = own_none rule.next step.stage (nat_le (length rule.backs) (length step.proofs)) no_stage t in
-        let enough = leb-true (length rule.backs) (length step.proofs) own.0 in
         owned n log step part unended few (record {
           rule = rule;
           numbered = numbered;
           values = values;
-          as_many = omega arith;
+          as_many = omega (arith, leb-true (length rule.backs) (length step.proofs) own.0);
           low = low;
           stage = own.1;
-          in_range = subst (λ stage. IfSome stage (λ stage. stage < length program.stages)) (sym no_stage) tt;
-          listing = subst (λ (mid : Option LogMid). IfSome mid (λ mid. IsListing program.signature mid.state)) (sym no_mid) tt;
+          in_range = rw no_stage tt;
+          listing = rw no_mid tt;
         }) no_mid
     cases false t =
         (part_later n (suc n) log part (omega arith), (unended, few, record { rule = rule; numbered = numbered; values = values; low = low; few = within; no_stage = no_stage; no_mid = no_mid; lacks = t }))
@@ -158,7 +152,7 @@ module _ (program : Parts) where
       → IsReadOf program (suc n) (with_step rule log (record step { stage = Some stage }))
   staged n log step rule stage part unended few numbered values low all leaves in_range no_mid =
       let own : has_own_lines rule (record step { stage = Some stage }) ≡ true = grind arith in
-      let whole : IsStepOf program (record step { stage = Some stage }) = record {
+      rw own (owned n log (record step { stage = Some stage }) part unended few (record {
         rule = rule;
         numbered = numbered;
         values = values;
@@ -166,10 +160,8 @@ module _ (program : Parts) where
         low = low;
         stage = ((λ h. leaves), (λ h. refl));
         in_range = in_range;
-        listing = subst (λ (mid : Option LogMid). IfSome mid (λ mid. IsListing program.signature mid.state)) (sym no_mid) tt;
-      } in
-      subst (λ (is : Bool). IsReadOf program (suc n) (if is then with_own log (record step { stage = Some stage }) else Within log (record step { stage = Some stage }))) (sym own)
-      (owned n log (record step { stage = Some stage }) part unended few whole no_mid)
+        listing = rw no_mid tt;
+      }) no_mid)
 
   -- a line that begins a step or the end
   begins_kept : (n : ℕ) (line : List ℕ) (log : Log) (new : SoFar) → IsPartOf program n log → log.end ≡ None → BeginsNext program n line log new → IsReadOf program (suc n) new
@@ -200,9 +192,6 @@ module _ (program : Parts) where
     same : open_step.rule ≡ goes.rule
     same = some_same open_step.rule goes.rule (sym open_step.numbered ∙ goes.numbered)
 
-    few : suc (length log.steps) < suc n
-    few = let h = is.1.1 in omega arith
-
     values : AreValues program.signature.cons goes.rule.kinds step.offer.values
     values = subst (λ rule. AreValues program.signature.cons rule.kinds step.offer.values) same open_step.values
 
@@ -210,19 +199,15 @@ module _ (program : Parts) where
         ⊎ ((stage : ℕ) × (length goes.rule.backs ≤ length step.proofs) × IsStageLine program line stage × (new ≡ with_step goes.rule log (record step { stage = Some stage })))
         → IsReadOf program (suc n) new
     cases (inl more) =
-        let longer = length-append step.proofs (more.0 ∷ []) in
-        let below = more.1 in
         subst (IsReadOf program (suc n)) (sym more.3)
-        (pending n log (record step { proofs = step.proofs ++ more.0 ∷ [] }) goes.rule is.0 is.1.0 few goes.numbered values
-        (all_pushed (λ proof. proof_height proof ≤ MOST_HEIGHT) step.proofs more.0 open_step.low more.2.proof_is.low) (omega arith) open_step.no_stage open_step.no_mid)
+        (pending n log (record step { proofs = step.proofs ++ more.0 ∷ [] }) goes.rule is.0 is.1.0 (omega (arith, is.1.1)) goes.numbered values
+        (all_pushed (λ proof. proof_height proof ≤ MOST_HEIGHT) step.proofs more.0 open_step.low more.2.proof_is.low) (omega (arith, length-append step.proofs (more.0 ∷ []), more.1)) open_step.no_stage open_step.no_mid)
     cases (inr said) =
-        let within : length step.proofs ≤ length goes.rule.backs = subst (λ rule. length step.proofs ≤ length rule.backs) same open_step.few in
-        let enough = said.1 in
-        let lacks : has_own_lines goes.rule step ≡ false = subst (λ rule. has_own_lines rule step ≡ false) same open_step.lacks in
-        let lacks_none : (nat_le (length goes.rule.backs) (length step.proofs) && (is_none goes.rule.next || false)) ≡ false = subst (λ stage. (nat_le (length goes.rule.backs) (length step.proofs) && (is_none goes.rule.next || is_some stage)) ≡ false) open_step.no_stage lacks in
-        let leaves = lacks_stage goes.rule.next (nat_le (length goes.rule.backs) (length step.proofs)) (le_tests (length goes.rule.backs) (length step.proofs) (omega arith)) lacks_none in
+        let within : length step.proofs ≤ length goes.rule.backs = rw same at open_step.few in
+        let lacks = rw (same, open_step.no_stage) at open_step.lacks in
+        let leaves = lacks_stage goes.rule.next (nat_le (length goes.rule.backs) (length step.proofs)) (le-leb (length goes.rule.backs) (length step.proofs) said.1) lacks in
         subst (IsReadOf program (suc n)) (sym said.3)
-        (staged n log step goes.rule said.0 is.0 is.1.0 few goes.numbered values open_step.low (omega arith) leaves said.2.in_range open_step.no_mid)
+        (staged n log step goes.rule said.0 is.0 is.1.0 (omega (arith, is.1.1)) goes.numbered values open_step.low (omega (arith, said.1)) leaves said.2.in_range open_step.no_mid)
   takes_kept through n line (Ended log end) new is goes = grind (arith, part_later, listing_more through program line end.state goes.state is.1 goes.listed, goes.ended, is.0, end.state, goes.state, is.1, goes.listed)
 
   pub leads_kept : (through : Transitive) (n : ℕ) (lines : List (List ℕ)) (old new : SoFar) → IsReadOf program n old → Leads program n lines old new → IsReadOf program (n + length lines) new
@@ -275,24 +260,22 @@ pub can_grow : (program : Parts) (number : ℕ) (so_far : SoFar) → number < MO
 can_grow program number so_far short is = grind (arith, slice_get_within)
 
 -- all lines were read
-all_done : (program : Parts) (lines : List (List ℕ)) (number : ℕ) (so_far : SoFar) → HasPassed program lines [] number so_far → Leads program 1 lines Nothing so_far × (number ≡ length lines)
-all_done program lines number so_far passed = grind (arith, append-nil, passed.done, passed.cut, passed.leads, passed.counted)
+all_done : (program : Parts) (lines left : List (List ℕ)) (number : ℕ) (so_far : SoFar) → HasPassed program lines left number so_far → left ≡ [] → Leads program 1 lines Nothing so_far × (number ≡ length lines)
+all_done program lines left number so_far passed none = grind (arith, append-nil, passed.done, passed.cut, passed.leads, passed.counted)
 
 pub log_said : (program : Parts) (bytes : List ℕ) (left : List (List ℕ)) (number : ℕ) (so_far : SoFar) (log : Log) → length bytes ≤ MOST_LOG → HasPassed program (all_lines bytes) left number so_far → left ≡ [] → said_by so_far number ≡ Some log → HasLog program bytes log
 log_said program bytes left number so_far log short passed none said =
-    let all = all_done program (all_lines bytes) number so_far (subst (λ rest. HasPassed program (all_lines bytes) rest number so_far) none passed) in
-    record { short = short; lines = all_lines bytes; cut = lines_are bytes; last = so_far; leads = all.0; said = subst (λ (n : ℕ). said_by so_far n ≡ Some log) all.1 said }
+    let all = all_done program (all_lines bytes) left number so_far passed none in
+    record { short = short; lines = all_lines bytes; cut = lines_are bytes; last = so_far; leads = all.0; said = rw all.1 at said }
 
 pub log_is_of : (through : Transitive) (program : Parts) (bytes : List ℕ) (left : List (List ℕ)) (number : ℕ) (so_far : SoFar) (log : Log) → length bytes ≤ MOST_LOG → HasPassed program (all_lines bytes) left number so_far → left ≡ [] → said_by so_far number ≡ Some log → IsLogOf program log
 log_is_of through program bytes left number so_far log short passed none said =
-    let few = few_lines bytes in
-    let counted = (all_done program (all_lines bytes) number so_far (subst (λ rest. HasPassed program (all_lines bytes) rest number so_far) none passed)).1 in
-    said_is_of program number so_far log (omega arith) (read_is_of through program (all_lines bytes) left number so_far passed) said
+    said_is_of program number so_far log (omega (arith, few_lines bytes, (all_done program (all_lines bytes) left number so_far passed none).1)) (read_is_of through program (all_lines bytes) left number so_far passed) said
 
 pub stops_said : (program : Parts) (bytes : List ℕ) (left : List (List ℕ)) (number : ℕ) (so_far : SoFar) → length bytes ≤ MOST_LOG → HasPassed program (all_lines bytes) left number so_far → left ≡ [] → said_by so_far number ≡ None → HasMisfit program bytes (Line (number + 1))
 stops_said program bytes left number so_far short passed none said =
-    let all = all_done program (all_lines bytes) number so_far (subst (λ rest. HasPassed program (all_lines bytes) rest number so_far) none passed) in
-    record { short = short; lines = all_lines bytes; cut = lines_are bytes; why = inr (record { last = so_far; leads = all.0; open_still = subst (λ (n : ℕ). said_by so_far n ≡ None) all.1 said; fault_is = ap (λ (n : ℕ). Line (n + 1)) all.1 }) }
+    let all = all_done program (all_lines bytes) left number so_far passed none in
+    record { short = short; lines = all_lines bytes; cut = lines_are bytes; why = inr (record { last = so_far; leads = all.0; open_still = rw all.1 at said; fault_is = ap (λ (n : ℕ). Line (n + 1)) all.1 }) }
 
 pub misfit_said : (program : Parts) (bytes : List ℕ) (left behind : List (List ℕ)) (line : List ℕ) (number : ℕ) (so_far : SoFar) (fault : LogFault) → length bytes ≤ MOST_LOG → HasPassed program (all_lines bytes) left number so_far → left ≡ line ∷ behind
     → ((new : SoFar) → ¬ (MovesOn program (number + 1) line so_far new)) → IsFaultOf program (number + 1) line so_far fault → HasMisfit program bytes fault

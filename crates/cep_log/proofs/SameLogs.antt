@@ -1,11 +1,11 @@
 -- A log has one text, and one that says the same is legal too.
 use Rattle.std.proofs.Common.{◌≡◌, ◌≢◌, ◌⊎◌, inl, inr, ℕ, zero, suc, ◌+◌, ◌<◌, ◌/◌, ◌%◌, List, [], ◌∷◌, ◌++◌, length, map, Bool, true, false, Option, Some, refl, sym, subst, arith, append_assoc, ◌≤◌, ◌∙◌, ap}
-use Rattle.std.proofs.lemmas.Bool.{false≢true}
 use Rattle.std.proofs.lemmas.List.Concat.{flat_map-cons}
 use Rattle.std.specs.Fmt.{digit_glyph, digits_onto, digits}
 use Rattle.std.specs.List.{AllByRecursion, flat_map, AllZip}
 use Rattle.std.specs.Char.{is_ascii_lowercase, is_ascii_uppercase}
-use Rattle.std.specs.Prelude.{decimal, slice_get, IsTrue, IsSomeAnd, is_some, IfSome}
+use Rattle.std.specs.Prelude.{decimal, slice_get, IsTrue, IsSomeAnd}
+use Rattle.cep_base.proofs.Elements.{both_all}
 use Rattle.cep_base.proofs.Lists.{none_some, some_same, holds_at, all_weaker}
 use Rattle.cep_base.specs.declared.limits.TheConstants.{MOST_LOG}
 use Rattle.cep_base.proofs.Options.{some_there as some_con}
@@ -24,35 +24,31 @@ use Rattle.cep_rule.specs.Steps.{Spot, start_spot, stage_after}
 use Rattle.cep_rule.specs.declared.offer.Offer.{Offer}
 use Rattle.cep_rule.specs.declared.parts.Parts.{Parts}
 use Rattle.cep_rule.specs.declared.rule.Rule.{Rule}
-use Rattle.cep_text.specs.Texts.{con_name, pred_name, clause_vars, enclosed, term_text, args_text, atom_text, given_text, all_given_text, offer_text, begin_text, proof_text, proofs_text, IsTypedGround}
-use Rattle.cep_lines.specs.Lines.{line, stage_name, has_listing}
+use Rattle.cep_text.specs.Texts.{con_name, pred_name, enclosed, term_text, args_text, atom_text, given_text, all_given_text, offer_text, begin_text, proof_text, proofs_text, IsTypedGround}
+use Rattle.cep_lines.specs.Lines.{line, stage_name}
 use Rattle.cep_lines.specs.declared.version.Version.{Version}
 use Rattle.cep_lines.specs.declared.version.Version.TheVariants.{Two}
-use Rattle.cep_log.specs.Legal.{IsListing, IsStepOf, HaveListings, IsLegalStep, AreLegalSteps, IsLegalEnd, IsLegal}
+use Rattle.cep_log.specs.Legal.{IsListing, IsStepOf, HaveListings, AreLegalSteps, IsLegalEnd, IsLegal}
 use Rattle.cep_log.specs.declared.log.LogStep.{LogStep}
 use Rattle.cep_log.specs.Transcript.{AreLines, IsOneLine}
 use Rattle.cep_log.specs.declared.log.Log.{Log}
 use Rattle.cep_log.specs.declared.log.LogEnd.{LogEnd}
 use Rattle.cep_log.specs.declared.log.LogMid.{LogMid}
 use Rattle.cep_log.specs.Written.{start_texts, mid_texts, step_texts, steps_texts, end_texts, text_of, ListTheSame, SayTheSame, EndTheSame, TellTheSame, DoTheSame, IsRenewal}
-use Rattle.std.specs.FinMap as finite
 
 -- The texts of values stand on one line, and lines that are written one after another are cut again.
 
 -- Bytes
 
-both : (xs ys : List ℕ) → IsOneLine xs → IsOneLine ys → IsOneLine (xs ++ ys)
-both [] ys a b = b
-both (x ∷ xs) ys a b = (a.0, both xs ys a.1 b)
+pub both : (xs ys : List ℕ) → IsOneLine xs → IsOneLine ys → IsOneLine (xs ++ ys)
+both xs ys a b = both_all (λ byte. (byte ≢ 10) × (byte ≢ 13)) xs ys a b
+
+-- a byte that passes a test which no end of a line passes
+pub plain_byte : (test : ℕ → Bool) → test 10 ≡ false → test 13 ≡ false → (byte : ℕ) → test byte ≡ true → (byte ≢ 10) × (byte ≢ 13)
+plain_byte test lf cr byte t = grind arith
 
 name_byte : (byte : ℕ) → IsTrue (is_name_byte byte) → (byte ≢ 10) × (byte ≢ 13)
-name_byte byte t = ((λ e. let h : is_name_byte 10 ≡ true = subst (λ b. is_name_byte b ≡ true) e t in absurd (false≢true h)), (λ e. let h : is_name_byte 13 ≡ true = subst (λ b. is_name_byte b ≡ true) e t in absurd (false≢true h)))
-
-lower_byte : (byte : ℕ) → IsTrue (is_ascii_lowercase byte) → (byte ≢ 10) × (byte ≢ 13)
-lower_byte byte t = ((λ e. let h : is_ascii_lowercase 10 ≡ true = subst (λ b. is_ascii_lowercase b ≡ true) e t in absurd (false≢true h)), (λ e. let h : is_ascii_lowercase 13 ≡ true = subst (λ b. is_ascii_lowercase b ≡ true) e t in absurd (false≢true h)))
-
-upper_byte : (byte : ℕ) → IsTrue (is_ascii_uppercase byte) → (byte ≢ 10) × (byte ≢ 13)
-upper_byte byte t = ((λ e. let h : is_ascii_uppercase 10 ≡ true = subst (λ b. is_ascii_uppercase b ≡ true) e t in absurd (false≢true h)), (λ e. let h : is_ascii_uppercase 13 ≡ true = subst (λ b. is_ascii_uppercase b ≡ true) e t in absurd (false≢true h)))
+name_byte = plain_byte is_name_byte refl refl
 
 onto_one : (k base : ℕ) (upper : Bool) (n : ℕ) (acc : List ℕ) → IsOneLine acc → IsOneLine (digits_onto k base upper n acc)
 onto_one zero base upper n acc is = is
@@ -68,12 +64,12 @@ variable_one : (name : List ℕ) → IsVariableName name → IsOneLine name
 variable_one name is = cases name is.word where
   cases : (name : List ℕ) → IsWord is_ascii_uppercase name ⊎ IsBlankName name → IsOneLine name
   cases [] word = tt
-  cases (byte ∷ bytes) (inl word) = (upper_byte byte word.0, all_weaker (λ next. IsTrue (is_name_byte next)) (λ next. (next ≢ 10) × (next ≢ 13)) bytes name_byte word.1)
+  cases (byte ∷ bytes) (inl word) = (plain_byte is_ascii_uppercase refl refl byte word.0, all_weaker (λ next. IsTrue (is_name_byte next)) (λ next. (next ≢ 10) × (next ≢ 13)) bytes name_byte word.1)
   cases (byte ∷ bytes) (inr blank) = subst IsOneLine (sym blank.1) (((λ e. omega arith), (λ e. omega arith)), decimal_one blank.0)
 
 named_one : {X : Type 0} (name_of : X → List ℕ) (xs : List X) (i : ℕ) (x : X) → AllByRecursion IsName (map name_of xs) → slice_get xs i ≡ Some x → IsOneLine (name_of x)
 named_one name_of (y ∷ xs) (suc i) x all e = named_one name_of xs i x all.1 e
-named_one name_of xs i x all e = grind (arith, none_some, some_same, lower_byte, all_weaker, name_byte)
+named_one name_of xs i x all e = grind (arith, none_some, some_same, plain_byte is_ascii_lowercase refl refl, all_weaker, name_byte)
 
 -- Terms and atoms
 
@@ -89,8 +85,7 @@ module _ (signature : Signature) (cons : AllByRecursion IsName (map (λ con. con
     term_one (variable v) kinds sort ground typed = tt
     term_one (node c args) kinds sort ground typed =
         let con = some_con (slice_get signature.cons c) _ typed in
-        let named : IsOneLine (con_name (slice_get signature.cons c)) = subst (λ found. IsOneLine (con_name found)) (sym con.1) (named_one (λ con. con.name) signature.cons c con.0 cons con.1) in
-        enclosed_one args (con_name (slice_get signature.cons c) ++ args_text signature args) (both (con_name (slice_get signature.cons c)) (args_text signature args) named (args_one args kinds con.0.args ground con.2.1))
+        enclosed_one args (con_name (slice_get signature.cons c) ++ args_text signature args) (both (con_name (slice_get signature.cons c)) (args_text signature args) (rw con.1 (named_one (λ con. con.name) signature.cons c con.0 cons con.1)) (args_one args kinds con.0.args ground con.2.1))
 
     args_one : (args : Trees) (kinds sorts : List ℕ) → AreGround args → HaveSorts signature.cons kinds sorts args → IsOneLine (args_text signature args)
     args_one none kinds sorts ground typed = tt
@@ -113,20 +108,13 @@ module _ (program : Parts) (is : IsProgram program) where
   pub atom_one : (a : AtomTree) → IsTypedGround program.signature a → IsOneLine (atom_text program.signature a)
   atom_one a typed =
       let pred = some_con (slice_get program.signature.preds a.pred) _ typed.typed in
-      let named : IsOneLine (pred_name (slice_get program.signature.preds a.pred)) = subst (λ found. IsOneLine (pred_name found)) (sym pred.1) (named_one (λ pred. pred.name) program.signature.preds a.pred pred.0 is.named.preds.each pred.1) in
-      both (pred_name (slice_get program.signature.preds a.pred)) (args_text program.signature a.args) named (args_one program.signature cons_named a.args [] pred.0.args typed.is_ground pred.2)
+      both (pred_name (slice_get program.signature.preds a.pred)) (args_text program.signature a.args) (rw pred.1 (named_one (λ pred. pred.name) program.signature.preds a.pred pred.0 is.named.preds.each pred.1)) (args_one program.signature cons_named a.args [] pred.0.args typed.is_ground pred.2)
 
   pub offer_one : (offer : Offer) → IsOfferOf program offer → IsOneLine (offer_text program offer)
   offer_one offer of = grind (arith, some_con, both, named_one, givens_one, cons_named, holds_at)
 
   begin_one : (number : ℕ) (values : List Tree) → IsSomeAnd (slice_get program.clauses number) (λ clause. AreValues program.signature.cons clause.kinds values) → IsOneLine (begin_text program number values)
-  begin_one number values of =
-      let clause = some_con (slice_get program.clauses number) _ of in
-      subst (λ found. IsOneLine (91 ∷ (decimal (number + 1) ++ all_given_text program.signature (clause_vars found) values))) (sym clause.1) (
-        ((λ e. omega arith), (λ e. omega arith)),
-        both (decimal (number + 1)) (all_given_text program.signature clause.0.vars values) (decimal_one (number + 1))
-            (givens_one program.signature cons_named clause.0.vars clause.0.kinds values (holds_at (λ clause. AllByRecursion IsVariableName clause.vars) program.clauses number clause.0 is.named.clause_vars clause.1) clause.2),
-      )
+  begin_one number values of = grind (arith, some_con, both, decimal_one (number + 1), givens_one, cons_named, holds_at, is.named.clause_vars)
 
   mutual
     pub proof_one : (proof : ProofTree) → IsProofOf program proof → IsOneLine (proof_text program proof)
@@ -174,10 +162,6 @@ module _ (program : Parts) where
   legal_steps_too height (step ∷ steps) (other ∷ others) old last same legal =
       (legal.0, (grind arith), legal_steps_too height steps others legal.0 last same.1 legal.2)
   legal_steps_too height steps others old last same legal = grind arith
-
-  -- Ends
-
-  -- Logs
 
   pub legal_too : (one other : Log) → IsLegal program one → other.version ≡ one.version → TellTheSame SayTheSame one other → other.lines ≤ MOST_LOG → length other.steps ≤ other.lines → IsLegal program other
   legal_too one other legal version same lines few = record {
@@ -234,15 +218,13 @@ module _ (one_state : (signature : Signature) (rule : Rule) (values : List Tree)
       let is' = legal'.1 in
       let offers = same.0.offer in
       let rules : is'.rule ≡ is.rule = some_same is'.rule is.rule (sym is'.machine.numbered ∙ ap (λ (offer : Offer). slice_get program.rules offer.rule) (sym offers) ∙ is.machine.numbered) in
-      let stepped : Step program.signature is.rule step.offer.values old.state legal'.0.state =
-      subst (λ (offer : Offer). Step program.signature is.rule offer.values old.state legal'.0.state) (sym offers)
-      (subst (λ (rule : Rule). Step program.signature rule step'.offer.values old.state legal'.0.state) rules is'.machine.steps.step) in
+      let stepped : Step program.signature is.rule step.offer.values old.state legal'.0.state = rw (offers, ← rules) is'.machine.steps.step in
       let states : legal.0.state ≡ legal'.0.state = one_state program.signature is.rule step.offer.values old.state legal.0.state legal'.0.state is.machine.steps.step stepped in
       let stages : legal.0.stage ≡ legal'.0.stage = is.machine.steps.stage ∙ ap (λ (rule : Rule). stage_after rule old.stage) (sym rules) ∙ sym is'.machine.steps.stage in
       let spots : legal.0 ≡ legal'.0 = λ i. record { stage = stages i; state = states i } in
-      let listed' = subst (λ (state : Multiset). IfSome step'.mid (λ (mid : LogMid). mid.state ≡ finite.entries state)) (sym states) is'.mid in (
+      let listed' = rw (← states) at is'.mid in (
         (record { does = same.0; lists = (grind arith) }),
-        (say_both height (number + 1) one other legal.0 last last' same.1 legal.2 (subst (λ (spot : Spot). AreLegalSteps program height other spot last') (sym spots) legal'.2) have.1 have'.1),
+        (say_both height (number + 1) one other legal.0 last last' same.1 legal.2 (rw (← spots) at legal'.2) have.1 have'.1),
       )
   say_both height number one other old last last' same legal legal' have have' = grind arith
 

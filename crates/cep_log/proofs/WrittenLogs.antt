@@ -1,12 +1,13 @@
 -- A legal log can be written, and is read as a log that says the same.
-use Rattle.std.proofs.Common.{◌≡◌, ℕ, ◌<◌, ◌≤◌, List, [], ◌∷◌, length, Option, Some, sym, ap, ◌∙◌, subst, arith, inl, inr, ◌+◌, ◌&&◌, ◌||◌, cond, ◌++◌, map, Bool, true, false, None, refl, append_assoc, length-append}
-use Rattle.std.proofs.lemmas.Bool.{le-leb, lt-leb}
+use Rattle.std.proofs.Common.{◌≡◌, ℕ, ◌<◌, ◌≤◌, List, [], ◌∷◌, length, Option, Some, sym, ap, ◌∙◌, subst, arith, inl, inr, ◌+◌, cond, ◌++◌, map, Bool, true, false, None, refl, append_assoc, length-append}
+use Rattle.std.proofs.lemmas.Bool.{le-leb}
 use Rattle.std.proofs.lemmas.List.{append-nil}
 use Rattle.std.proofs.lemmas.Slice.Zip.{AllZip-long}
 use Rattle.std.specs.List.{AllByRecursion, AllZip, flat_map}
-use Rattle.std.specs.Prelude.{slice_get, IfSome, IsSomeAnd, nat_le, is_none, is_some}
+use Rattle.std.specs.Prelude.{slice_get, IfSome, IsSomeAnd, is_some}
 use Rattle.cep_base.proofs.Elements.{both_all}
-use Rattle.cep_base.proofs.Lists.{some_same, holds_at, none_some}
+use Rattle.cep_base.proofs.Options.{some_there}
+use Rattle.cep_base.proofs.Lists.{all_weaker, some_same, holds_at, none_some}
 use Rattle.cep_base.specs.declared.limits.TheConstants.{MOST_HEIGHT, MOST_LOG}
 use Rattle.cep_term.specs.Multiset.{Multiset, IsContained}
 use Rattle.cep_term.specs.Tree.{Tree, AtomTree}
@@ -24,21 +25,20 @@ use Rattle.cep_rule.specs.declared.rule.Rule.{Rule}
 use Rattle.cep_rule.specs.Program.{IsTypedRule, IsDividedRule, IsProgram}
 use Rattle.cep_rule.specs.Shapes.{IsOfferOf, IsProofOf, IsSmallTerm, HasSmallValues}
 use Rattle.cep_rule.specs.State.{IsState}
-use Rattle.cep_log.proofs.LegalLogs.{start_read, mid_read, end_read, ways_join}
+use Rattle.cep_log.proofs.LegalLogs.{listing_read, ways_join}
 use Rattle.cep_log.proofs.SameLogs.{written_lines, legal_too}
 use Rattle.cep_log.proofs.LineTexts.{version_one, height_one, stage_text_one, step_text_one, haves_one, bys_one, stages_one, mids_one, ends_one}
-use Rattle.cep_log.specs.Legal.{IsListing, IsStepOf, IsLegalStep, AreLegalSteps, HaveListings, IsLegalEnd, IsLegal}
+use Rattle.cep_log.specs.Legal.{IsListing, IsStepOf, IsLegalStep, AreLegalSteps, HaveListings, IsLegal}
 use Rattle.cep_log.specs.declared.so_far.SoFar.{SoFar}
-use Rattle.cep_log.specs.Transcript.{IsReadable, IsByLine, BeginsNext, Becomes, MovesOn, Leads, stage_texts, has_own_lines, with_own, with_step, step_begun, log_listed, IsOneLine, IsPassedOver, HasLog, log_begun, mid_begun, end_begun, next_number, log_with}
+use Rattle.cep_log.specs.Transcript.{IsReadable, IsByLine, MovesOn, Leads, stage_texts, has_own_lines, with_own, with_step, step_begun, log_listed, IsOneLine, HasLog, log_begun, mid_begun, end_begun, next_number, log_with}
 use Rattle.cep_log.specs.Written.{start_texts, mid_texts, step_texts, end_texts, IsRemark, TellSteps, TellLog, ListTheSame, SayTheSame, EndTheSame, TellTheSame}
 use Rattle.cep_log.specs.declared.log.Log.{Log}
 use Rattle.cep_log.specs.declared.log.LogEnd.{LogEnd}
 use Rattle.cep_log.specs.declared.log.LogMid.{LogMid}
 use Rattle.cep_log.specs.declared.log.LogStep.{LogStep}
 use Rattle.cep_log.specs.declared.so_far.SoFar.TheVariants.{Nothing, Begun, Height, Whole, Within, Unlisted, Listed, Ended}
-use Rattle.cep_lines.specs.Lines.{step_text, by_text, line, has_listing, version_text, height_text, stage_text, have_text, state_text, end_text}
-use Rattle.cep_lines.specs.declared.version.Version.{Version}
-use Rattle.cep_text.specs.Texts.{offer_text, proof_text}
+use Rattle.cep_lines.specs.Lines.{step_text, by_text, line, has_listing, height_text, stage_text, have_text, state_text, end_text}
+use Rattle.cep_text.specs.Texts.{proof_text}
 
 -- The steps of a legal log can be written and read back.
 
@@ -176,7 +176,7 @@ module _ (program : Parts) (log : Log) (rule : Rule) where
 -- each line has its LF
 pub few_lines : (lines : List (List ℕ)) → length lines ≤ length (flat_map line lines)
 few_lines [] = omega arith
-few_lines (text ∷ lines) = let later = few_lines lines in omega (arith, later, length-append (text ++ 10 ∷ []) (flat_map line lines), length-append text (10 ∷ []))
+few_lines (text ∷ lines) = omega (arith, few_lines lines, length-append (text ++ 10 ∷ []) (flat_map line lines), length-append text (10 ∷ []))
 
 steps_long : (program : Parts) (number : ℕ) (steps : List LogStep) (lines : List (List ℕ)) → TellSteps program number steps lines → length steps ≤ length lines
 steps_long program number [] lines told = omega arith
@@ -193,8 +193,7 @@ remarks_over program number [] so_far all = refl
 remarks_over program number (remark ∷ lines) so_far all = (so_far, inl (all.0.passed, refl), remarks_over program (number + 1) lines so_far all.1)
 
 remarks_one : (lines : List (List ℕ)) → AllByRecursion IsRemark lines → AllByRecursion IsOneLine lines
-remarks_one [] all = tt
-remarks_one (remark ∷ lines) all = (all.0.one, remarks_one lines all.1)
+remarks_one lines all = all_weaker IsRemark IsOneLine lines (λ remark is. is.one) all
 
 -- Listings after steps
 
@@ -218,7 +217,7 @@ mid_told program number log own (Some mid) unlisted listing wants =
       front = front;
       whole = refl;
       leads = subst (λ old. Leads program number lines old front) (ap (λ (is : Bool). cond is (Unlisted log own) (Whole (log_with log own))) wants)
-          (Listed log own (mid_begun number), inr ((λ over. omega (arith, over)), (refl, refl)), mid_read program (number + 1) log own (mid_begun number) [] mid.state listing);
+          (Listed log own (mid_begun number), inr ((λ over. omega (arith, over)), (refl, refl)), listing_read program (λ state. Listed log own (record { line = number; state = state })) (λ n line old new goes. inl (record { state = new; listed = goes; more = refl })) (number + 1) [] mid.state listing);
     }
 
 -- Steps
@@ -285,7 +284,7 @@ module _ (program : Parts) where
       }
 
   steps_one : IsProgram program → (number : ℕ) (steps : List LogStep) (lines : List (List ℕ)) → AllByRecursion (IsWritable program) steps → TellSteps program number steps lines → AllByRecursion IsOneLine lines
-  steps_one is number [] lines are told = subst (AllByRecursion IsOneLine) (sym told) tt
+  steps_one is number [] lines are told = rw told tt
   steps_one is number (step ∷ steps) lines are told =
       let stages = stage_texts program step.stage in
       let mids = mid_texts program number step.mid in
@@ -294,8 +293,7 @@ module _ (program : Parts) where
         both_all IsOneLine (map (by_text program) step.proofs) (stages ++ mids) (bys_one program is step.proofs are.0.readable)
             (both_all IsOneLine stages mids (stages_one program is step.stage are.0.in_range) (mids_one program is number step.mid are.0.listing)),
       ) in
-      subst (AllByRecursion IsOneLine) (sym told.4)
-      (both_all IsOneLine told.0 (step_texts program number step ++ told.1) (remarks_one told.0 told.2)
+      rw told.4 (both_all IsOneLine told.0 (step_texts program number step ++ told.1) (remarks_one told.0 told.2)
       (both_all IsOneLine (step_texts program number step) told.1 own (steps_one is (number + 1) steps told.1 are.1 told.3)))
 
 -- The header and the end
@@ -316,13 +314,13 @@ module _ (program : Parts) where
   start_told log height stage start =
       let begun = log_begun log.version log.height 3 log.stage in
       let third : Leads program 3 (stage_text program log.stage ∷ map (have_text program.signature) log.start) (Height log.version log.height) (Whole (log_started log)) =
-      (Whole begun, inr ((λ over. omega (arith, over)), (log.stage, record { in_range = stage; written = refl }, refl)), start_read program 4 begun [] log.start refl start) in
+      (Whole begun, inr ((λ over. omega (arith, over)), (log.stage, record { in_range = stage; written = refl }, refl)), listing_read program (λ start. Whole (record begun { start = start })) (λ n line old new goes. inl (record { first = refl; start = new; listed = goes; whole = refl })) 4 [] log.start start) in
       let second : Leads program 2 (height_text log.height ∷ (stage_text program log.stage ∷ map (have_text program.signature) log.start)) (Begun log.version) (Whole (log_started log)) =
       (Height log.version log.height, inr ((λ over. omega (arith, over)), (log.height, height, refl, refl)), third) in
       (Begun log.version, inr (grind arith, (log.version, refl, refl)), second)
 
   end_told : (number : ℕ) (old : SoFar) (log : Log) → whole_log old ≡ Some log → (end : LogEnd) → IsListing program.signature end.state → ReadsEnd program number (end_text end.word ∷ map (have_text program.signature) end.state) old log end
-  end_told number old log whole end listing = grind (arith, end_read program (number + 1) log (end_begun number end.word) [] end.state listing)
+  end_told number old log whole end listing = grind (arith, listing_read program (λ state. Ended log (record (end_begun number end.word) { state = state })) (λ n line old new goes. record { state = new; listed = goes; ended = refl }) (number + 1) [] end.state listing)
 
 -- Logs
 
@@ -373,7 +371,6 @@ module _ (laws : StepLaws) (program : Parts) (is : IsProgram program) where
 
   -- A legal log has an end, so all of it is read back.
   pub log_read : (log : Log) (lines : List (List ℕ)) → IsLegal program log → TellLog program lines log → length (flat_map line lines) ≤ MOST_LOG → IsReadBack program log lines
-  log_read log lines legal tells short = cases log.end refl legal.ending where
-    cases : (end : Option LogEnd) → log.end ≡ end → IsSomeAnd end (IsLegalEnd program log.height legal.last) → IsReadBack program log lines
-    cases None same ending = absurd ending
-    cases (Some end) same ending = read_ended log lines end same legal tells short
+  log_read log lines legal tells short =
+      let end = some_there log.end _ legal.ending in
+      read_ended log lines end.0 end.1 legal tells short

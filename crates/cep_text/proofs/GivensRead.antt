@@ -1,5 +1,5 @@
 -- What variables are given, as it is read.
-use Rattle.std.proofs.Common.{◌≡◌, ℕ, ◌+◌, ◌≤◌, List, [], ◌∷◌, ◌++◌, length, codes, Some, refl, sym, ap, subst, ◌∙◌, arith, append_assoc, append-nil}
+use Rattle.std.proofs.Common.{◌≡◌, ℕ, ◌+◌, ◌≤◌, List, [], ◌∷◌, ◌++◌, length, codes, Some, refl, sym, ap, ◌∙◌, arith, append_assoc, append-nil}
 use Rattle.std.specs.List.{AllByRecursion}
 use Rattle.cep_term.specs.Tree.{Tree, term_depth}
 use Rattle.cep_rule.specs.Names.{AreNames}
@@ -9,7 +9,7 @@ use Rattle.cep_rule.specs.declared.signature.Signature.{Signature}
 use Rattle.cep_text.proofs.Heads.{IsApart}
 use Rattle.cep_text.proofs.TermTexts.{SmallFound, small_found, small_again}
 use Rattle.cep_text.proofs.ValuesFound.{literal_again, literal_found, value_again}
-use Rattle.cep_text.proofs.TableLemmas.{by_bind, some_is}
+use Rattle.cep_text.proofs.TableLemmas.{by_bind, by_some}
 use Rattle.cep_text.specs.Reading.{Reader, literal_at, con_names, value_at, small_at, given_at, givens_at}
 use Rattle.cep_text.specs.Texts.{term_text, all_given_text}
 
@@ -41,11 +41,7 @@ pub givens_found : (signature : Signature) (names : List (List ℕ)) (kinds : Li
     → givens_at (small_at signature.cons) names kinds before bytes ≡ Some (all, rest) → GivensFound signature names kinds before bytes all rest
 unfolding givens_at
 givens_found signature [] [] before bytes all rest many e =
-    let read : List Tree × List ℕ = (before, bytes) in
-    let pair = some_is read (all, rest) e in
-    subst (λ (x : List Tree × List ℕ). GivensFound signature [] [] before bytes x.0 x.1) pair (record { values = []; behind = sym (append-nil before); typed = tt; small = tt; text = refl })
-givens_found signature [] (kind ∷ kinds) before bytes all rest many e = absurd (omega arith)
-givens_found signature (name ∷ names) [] before bytes all rest many e = absurd (omega arith)
+    by_some (λ (x : List Tree × List ℕ). GivensFound signature [] [] before bytes x.0 x.1) _ (all, rest) e (record { values = []; behind = sym (append-nil before); typed = tt; small = tt; text = refl })
 givens_found signature (name ∷ names) (kind ∷ kinds) before bytes all rest many e =
     by_bind (given_at (small_at signature.cons kind) name bytes) _ (all, rest) e (λ first first-is e.
     let one = given_found signature name kind bytes first.0 first.1 first-is in
@@ -59,6 +55,7 @@ givens_found signature (name ∷ names) (kind ∷ kinds) before bytes all rest m
           ∙ ap (λ bytes. codes " " ++ (name ++ (codes "=" ++ bytes))) (one.1.text ∙ ap (λ bytes. term_text signature first.0 ++ bytes) others.text)
           ∙ regroup name (term_text signature first.0) (all_given_text signature names others.values) rest;
     })
+givens_found signature names kinds before bytes all rest many e = absurd (omega arith)
 
 -- The text of each value is read as it.
 abbrev pub AreRead : Signature → (ℕ → Reader Tree) → List ℕ → List Tree → Type 0
@@ -81,16 +78,13 @@ pub givens_again : (signature : Signature) (value : ℕ → Reader Tree) (names 
     → givens_at value names kinds before (all_given_text signature names values ++ rest) ≡ Some (before ++ values, rest)
 unfolding givens_at
 givens_again signature value [] [] before [] rest many read apart = rw append-nil refl
-givens_again signature value [] [] before (t ∷ values) rest many read apart = absurd read
-givens_again signature value [] (kind ∷ kinds) before values rest many read apart = absurd (omega arith)
-givens_again signature value (name ∷ names) [] before values rest many read apart = absurd (omega arith)
-givens_again signature value (name ∷ names) (kind ∷ kinds) before [] rest many read apart = absurd read
 givens_again signature value (name ∷ names) (kind ∷ kinds) before (t ∷ values) rest many read apart =
     let behind = all_given_text signature names values ++ rest in
     let one = given_again signature (value kind) name t behind (read.0 behind (givens_apart signature names values rest apart)) in
     let others = givens_again signature value names kinds (before ++ t ∷ []) values rest (omega arith) read.1 apart in
     ap (givens_at value (name ∷ names) (kind ∷ kinds) before) (sym (regroup name (term_text signature t) (all_given_text signature names values) rest))
     ∙ rw (one, others) (ap (λ all. Some (all, rest)) (append_assoc before (t ∷ []) values))
+givens_again signature value names kinds before values rest many read apart = grind arith
 
 -- small values are read
 pub small_read : (signature : Signature) → AreNames (con_names signature.cons) → (kinds : List ℕ) (values : List Tree) → AreValues signature.cons kinds values → AllByRecursion IsSmallTerm values → AreRead signature (small_at signature.cons) kinds values

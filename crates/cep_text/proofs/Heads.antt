@@ -1,16 +1,14 @@
 -- Names at the front of a text.
-use Rattle.std.proofs.Common.{◌≡◌, ℕ, Bool, true, cond, eqb, ◌&&◌, ◌||◌, nat_le, List, [], ◌∷◌, ◌++◌, length, slice_get, codes, Option, Some, None, refl, sym, ap, subst, ◌∙◌, arith, take_at, drop_at, take-append-drop}
+use Rattle.std.proofs.Common.{◌≡◌, ℕ, true, List, [], ◌∷◌, ◌++◌, length, slice_get, codes, Option, Some, None, refl, sym, ap, subst, ◌∙◌, arith, take_at, drop_at, take-append-drop}
 use Rattle.std.proofs.lemmas.Bool.{eqb-true, eq-eqb}
-use Rattle.std.proofs.lemmas.Option.{slice_get-map}
 use Rattle.std.specs.Char.{is_ascii_lowercase}
 use Rattle.std.specs.List.{AllByRecursion}
-use Rattle.std.specs.Option.{option_map}
-use Rattle.std.specs.Prelude.{IsTrue, ◌==◌}
+use Rattle.std.specs.Prelude.{IsTrue}
 use Rattle.cep_base.specs.Spelling.{is_name_byte}
 use Rattle.cep_rule.specs.Names.{IsWord, IsName, AreNames}
 use Rattle.cep_rule.specs.declared.signature.Con.{Con}
 use Rattle.cep_rule.specs.declared.signature.PredDecl.{PredDecl}
-use Rattle.cep_text.proofs.TableLemmas.{by_bind, guard_some, some_is, all_at, number_is, number_found, item_name}
+use Rattle.cep_text.proofs.TableLemmas.{by_bind, guard_some, some_is, all_at, number_found, item_name, item_named}
 use Rattle.cep_text.specs.Reading.{literal_at, name_len, front_name, behind_name, number_among, con_names, pred_names, of_sort, con_at, pred_head, pred_at}
 
 -- No byte of a name stands at the front.
@@ -57,25 +55,18 @@ sort_found : (sort number : ℕ) (found : Option Con) (number' : ℕ) (kinds : L
     → (con : Con) × (found ≡ Some con) × (number ≡ number') × (con.sort ≡ sort) × (con.args ≡ kinds)
 sort_found sort number found number' kinds e = grind (arith, guard_some, eqb-true)
 
-named : (found : Option Con) (con : Con) (name : List ℕ) → found ≡ Some con → option_map (λ con. con.name) found ≡ Some name → con.name ≡ name
-named found con name e there = grind (arith, some_is)
-
 -- a constructor that is read stands in the text by its name
 pub con_found : (cons : List Con) (sort : ℕ) (bytes : List ℕ) (number : ℕ) (kinds rest : List ℕ) → con_at cons sort bytes ≡ Some ((number, kinds), rest) → ConFound cons sort bytes number kinds rest
 unfolding con_at
 con_found cons sort bytes number kinds rest e =
     by_bind (number_among (con_names cons) (front_name bytes)) _ _ e (λ n n-is e.
     by_bind (of_sort sort n (slice_get cons n)) _ _ e (λ head head-is e.
-    let read : (ℕ × List ℕ) × List ℕ = (head, behind_name bytes) in
-    let wanted : (ℕ × List ℕ) × List ℕ = ((number, kinds), rest) in
-    let pair = some_is read wanted e in
-    let head_is = head-is ∙ ap Some (ap (λ z. z.0) pair) in
-    let found = sort_found sort n (slice_get cons n) number kinds head_is in
-    let there : slice_get cons number ≡ Some found.0 = subst (λ k. slice_get cons k ≡ Some found.0) found.2 found.1 in
-    let name : found.0.name ≡ front_name bytes = named (slice_get cons n) found.0 (front_name bytes) found.1 (sym (slice_get-map (λ con. con.name) cons n) ∙ number_is (con_names cons) (front_name bytes) n n-is) in
+    let pair = some_is (head, behind_name bytes) ((number, kinds), rest) e in
+    let found = sort_found sort n (slice_get cons n) number kinds (head-is ∙ ap Some (ap (λ z. z.0) pair)) in
+    let name = item_named (λ con. con.name) cons (front_name bytes) n found.0 n-is found.1 in
     record {
       con = found.0;
-      numbered = there;
+      numbered = subst (λ k. slice_get cons k ≡ Some found.0) found.2 found.1;
       of_type = found.3;
       args = found.4;
       text = sym (take-append-drop (name_len bytes) bytes) ∙ ap (λ front. front ++ behind_name bytes) (sym name) ∙ ap (λ r. found.0.name ++ r) (ap (λ z. z.1) pair);
@@ -101,19 +92,14 @@ head_found : (number : ℕ) (found : Option PredDecl) (number' : ℕ) (kinds : L
     → (pred : PredDecl) × (found ≡ Some pred) × (number ≡ number') × (pred.args ≡ kinds)
 head_found number found number' kinds e = grind (arith, some_is)
 
-named_pred : (found : Option PredDecl) (pred : PredDecl) (name : List ℕ) → found ≡ Some pred → option_map (λ pred. pred.name) found ≡ Some name → pred.name ≡ name
-named_pred found pred name e there = grind (arith, some_is)
-
 pub pred_found : (preds : List PredDecl) (bytes : List ℕ) (number : ℕ) (kinds rest : List ℕ) → pred_at preds bytes ≡ Some ((number, kinds), rest) → PredFound preds bytes number kinds rest
 unfolding pred_at
 pred_found preds bytes number kinds rest e =
     by_bind (number_among (pred_names preds) (front_name bytes)) _ _ e (λ n n-is e.
     by_bind (pred_head n (slice_get preds n)) _ _ e (λ head head-is e.
-    let read : (ℕ × List ℕ) × List ℕ = (head, behind_name bytes) in
-    let wanted : (ℕ × List ℕ) × List ℕ = ((number, kinds), rest) in
-    let pair = some_is read wanted e in
+    let pair = some_is (head, behind_name bytes) ((number, kinds), rest) e in
     let found = head_found n (slice_get preds n) number kinds (head-is ∙ ap Some (ap (λ z. z.0) pair)) in
-    let name : found.0.name ≡ front_name bytes = named_pred (slice_get preds n) found.0 (front_name bytes) found.1 (sym (slice_get-map (λ pred. pred.name) preds n) ∙ number_is (pred_names preds) (front_name bytes) n n-is) in
+    let name = item_named (λ pred. pred.name) preds (front_name bytes) n found.0 n-is found.1 in
     record {
       pred = found.0;
       numbered = subst (λ k. slice_get preds k ≡ Some found.0) found.2 found.1;

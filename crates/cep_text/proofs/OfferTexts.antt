@@ -1,8 +1,6 @@
 -- The texts of offers and derivations, of which no two are one.
 use Rattle.std.proofs.Common.{◌≡◌, ℕ, List, [], ◌++◌, length, take-append-drop, slice_get, Option, Some, None, IsSomeAnd, refl, sym, ap, subst, ◌∙◌, append-nil, arith, ◌+◌, ◌≤◌, codes, append_assoc}
-use Rattle.std.proofs.lemmas.Option.{slice_get-map}
 use Rattle.std.specs.List.{AllByRecursion}
-use Rattle.std.specs.Option.{option_map}
 use Rattle.cep_term.specs.Tree.{Tree, Trees, AtomTree, node, none, more, IsGround, AreGround, term_depth, argument_depth}
 use Rattle.cep_rule.specs.Derivations.{ProofTree, ProofTrees, by_clause, no_goal, goal_by, proof_height}
 use Rattle.cep_rule.specs.declared.signature.Signature.{Signature}
@@ -15,12 +13,13 @@ use Rattle.cep_rule.specs.Shapes.{IsOfferOf, IsSmallTerm, AreAsMany, IsProofOf, 
 use Rattle.cep_rule.specs.Program.{IsProgram, IsTypedRule}
 use Rattle.cep_rule.specs.Typing.{AreValues, HasSort, IsValue}
 use Rattle.cep_rule.specs.declared.offer.Offer.{Offer}
+use Rattle.cep_base.proofs.Options.{some_and}
 use Rattle.cep_text.proofs.GivensRead.{givens_found, AreRead, givens_apart, givens_again, small_read, all_read, levels_of}
 use Rattle.cep_text.proofs.ProofsFound.{proof_found}
 use Rattle.cep_text.proofs.Heads.{IsApart, name_bytes, front_is, behind_is, no_parenthesis, pred_again}
 use Rattle.cep_text.specs.Reads.{IsOfferText, IsProofText}
 use Rattle.cep_text.proofs.ProofsAgain.{NodeRead, IsRead, AllAreRead, proof_again}
-use Rattle.cep_text.proofs.TableLemmas.{by_bind, some_is, none_is, all_at, number_is, number_found, item_name}
+use Rattle.cep_text.proofs.TableLemmas.{by_bind, by_some, some_is, none_is, all_at, number_found, item_name, item_named}
 use Rattle.cep_text.proofs.TermTexts.{whole_is, PredOf, pred_of}
 use Rattle.cep_text.proofs.ValuesFound.{con_of, value_again, arguments_again, args_apart, literal_again}
 use Rattle.cep_text.specs.Reading.{Reader, name_len, front_name, behind_name, number_among, rule_names, small_at, whole, givens_at, rule_at, offer_read, value_at, proof_at, proof_read, ◌>>=◌, literal_at, con_names, pred_names, pred_at, arguments_at}
@@ -34,20 +33,14 @@ pub record RuleFound (rules : List Rule) (bytes : List ℕ) (number : ℕ) (rule
   pub numbered : slice_get rules number ≡ Some rule
   pub text : bytes ≡ rule.name ++ rest
 
-named_rule : (found : Option Rule) (rule : Rule) (name : List ℕ) → found ≡ Some rule → option_map (λ rule. rule.name) found ≡ Some name → rule.name ≡ name
-named_rule found rule name e there = grind (arith, some_is)
-
 rule_found : (rules : List Rule) (bytes : List ℕ) (number : ℕ) (rule : Rule) (rest : List ℕ) → rule_at rules bytes ≡ Some ((number, rule), rest) → RuleFound rules bytes number rule rest
 unfolding rule_at
 rule_found rules bytes number rule rest e =
     by_bind (number_among (rule_names rules) (front_name bytes)) _ _ e (λ n n-is e.
     by_bind (slice_get rules n) _ _ e (λ found found-is e.
-    let read : (ℕ × Rule) × List ℕ = ((n, found), behind_name bytes) in
-    let wanted : (ℕ × Rule) × List ℕ = ((number, rule), rest) in
-    let pair = some_is read wanted e in
-    let name : found.name ≡ front_name bytes = named_rule (slice_get rules n) found (front_name bytes) found-is (sym (slice_get-map (λ rule. rule.name) rules n) ∙ number_is (rule_names rules) (front_name bytes) n n-is) in
-    let text : bytes ≡ found.name ++ behind_name bytes = sym (take-append-drop (name_len bytes) bytes) ∙ ap (λ front. front ++ behind_name bytes) (sym name) in
-    subst (λ (x : (ℕ × Rule) × List ℕ). RuleFound rules bytes x.0.0 x.0.1 x.1) pair (record { numbered = found-is; text = text })))
+    let name = item_named (λ rule. rule.name) rules (front_name bytes) n found n-is found-is in
+    by_some (λ (x : (ℕ × Rule) × List ℕ). RuleFound rules bytes x.0.0 x.0.1 x.1) _ ((number, rule), rest) e
+    (record { numbered = found-is; text = sym (take-append-drop (name_len bytes) bytes) ∙ ap (λ front. front ++ behind_name bytes) (sym name) })))
 
 rule_again : (rules : List Rule) (number : ℕ) (rule : Rule) (rest : List ℕ) → AreNames (rule_names rules) → slice_get rules number ≡ Some rule → IsApart rest
     → rule_at rules (rule.name ++ rest) ≡ Some ((number, rule), rest)
@@ -56,9 +49,6 @@ rule_again rules number rule rest names there apart =
     let named_there = item_name (λ rule. rule.name) rules number rule there in
     let letters = name_bytes rule.name (all_at IsName (rule_names rules) number rule.name names.each named_there) in
     rw (front_is rule.name rest letters apart, number_found (rule_names rules) number rule.name names.differ named_there, there, behind_is rule.name rest letters apart) refl
-
-is_of : (program : Parts) (values : List Tree) (found : Option Rule) (rule : Rule) → found ≡ Some rule → AreValues program.signature.cons rule.kinds values → IsSomeAnd found (λ rule. AreValues program.signature.cons rule.kinds values)
-is_of program values found rule e typed = grind arith
 
 -- the rule of an offer
 pub record RuleOf (program : Parts) (offer : Offer) : Type 0 where
@@ -90,7 +80,7 @@ offer_some program bytes offer keeps e =
     let read : Offer = record { rule = rule.0.0; values = all } in
     let typed = subst (AreValues program.signature.cons rule.0.1.kinds) same found.typed in
     subst (IsOfferText program bytes) (some_is read offer e) (record {
-      of_rule = is_of program all (slice_get program.rules rule.0.0) rule.0.1 head.numbered typed;
+      of_rule = some_and _ _ (λ rule. AreValues program.signature.cons rule.kinds all) head.numbered typed;
       small = subst (AllByRecursion IsSmallTerm) same found.small;
       text = head.text
           ∙ ap (λ text. rule.0.1.name ++ text) (found.text ∙ ap (λ rest. all_given_text program.signature rule.0.1.vars found.values ++ rest) ended.1 ∙ append-nil (all_given_text program.signature rule.0.1.vars found.values) ∙ ap (all_given_text program.signature rule.0.1.vars) same)
@@ -146,19 +136,14 @@ abbrev mutual
 -- all values are read with that many levels
 mutual
   pub all_is_read : (program : Parts) → IsProgram program → (depth : ℕ) (proof : ProofTree) → IsProofOf program proof → levels_in proof ≤ depth → IsRead program (value_at program.signature.cons depth) proof
-  all_is_read program keeps depth (by_clause number values subs) is low =
-      let here : levels_of values ≤ depth = omega arith in
-      let above : levels_among subs ≤ depth = omega arith in (
-        node_read program (value_at program.signature.cons depth) number values subs (slice_get program.clauses number) refl (λ kinds typed. all_read program.signature keeps.named.cons depth kinds values typed here) is.0 is.1,
-        all_are_read program keeps depth subs is.2 above,
-      )
+  all_is_read program keeps depth (by_clause number values subs) is low = (
+    node_read program (value_at program.signature.cons depth) number values subs (slice_get program.clauses number) refl (λ kinds typed. all_read program.signature keeps.named.cons depth kinds values typed (omega arith)) is.0 is.1,
+    all_are_read program keeps depth subs is.2 (omega arith),
+  )
 
   pub all_are_read : (program : Parts) → IsProgram program → (depth : ℕ) (proofs : ProofTrees) → AreProofsOf program proofs → levels_among proofs ≤ depth → AllAreRead program (value_at program.signature.cons depth) proofs
   all_are_read program keeps depth no_goal are low = tt
-  all_are_read program keeps depth (goal_by proof proofs) are low =
-      let first : levels_in proof ≤ depth = omega arith in
-      let others : levels_among proofs ≤ depth = omega arith in
-      (all_is_read program keeps depth proof are.0 first, all_are_read program keeps depth proofs are.1 others)
+  all_are_read program keeps depth (goal_by proof proofs) are low = (all_is_read program keeps depth proof are.0 (omega arith), all_are_read program keeps depth proofs are.1 (omega arith))
 
 pub proof_some : (program : Parts) (bytes : List ℕ) (proof : ProofTree) → IsProgram program → proof_read program (small_at program.signature.cons) MOST_HEIGHT bytes ≡ Some proof → IsProofText program bytes proof
 unfolding proof_read

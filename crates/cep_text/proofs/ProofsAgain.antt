@@ -1,10 +1,10 @@
 -- The text of a derivation is read as that derivation.
-use Rattle.std.proofs.Common.{◌≡◌, ℕ, suc, ◌+◌, ◌-◌, ◌<◌, ◌≤◌, ◌^◌, Bool, true, ◌&&◌, ◌||◌, nat_le, List, [], ◌∷◌, ◌++◌, length, slice_get, codes, Some, refl, ap, ◌∙◌, arith, append_assoc}
+use Rattle.std.proofs.Common.{add-one, ◌≡◌, ℕ, ◌+◌, ◌-◌, ◌<◌, ◌≤◌, ◌^◌, true, List, [], ◌∷◌, ◌++◌, length, slice_get, codes, Some, refl, ap, ◌∙◌, arith, append_assoc}
 use Rattle.std.proofs.lemmas.Fmt.{digits_decimal}
 use Rattle.std.proofs.lemmas.Option.{slice_get_within}
 use Rattle.std.proofs.lemmas.Str.Parse.{numerals_by_value, tells_all_ascii_digits}
 use Rattle.std.specs.Char.{is_ascii_digit}
-use Rattle.std.specs.Prelude.{decimal, ◌==◌}
+use Rattle.std.specs.Prelude.{decimal}
 use Rattle.std.specs.Str.{all_ascii_digits}
 use Rattle.cep_term.specs.Tree.{Tree, AtomTree}
 use Rattle.cep_base.specs.Spelling.{is_name_byte}
@@ -22,15 +22,12 @@ use Rattle.cep_text.proofs.ValuesFound.{literal_again, proof_more}
 use Rattle.cep_text.specs.Texts.{clause_vars, all_given_text, begin_text, proof_text, proofs_text}
 
 -- digits are bytes of names
-and_both : (a b : Bool) → (a && b) ≡ true → (a ≡ true) × (b ≡ true)
-and_both a b e = grind arith
-
 digit_goes_on : (byte : ℕ) → is_ascii_digit byte ≡ true → is_name_byte byte ≡ true
 digit_goes_on byte t = grind arith
 
 digits_go_on : (digits : List ℕ) → all_ascii_digits digits ≡ true → AreNameBytes digits
 digits_go_on [] t = tt
-digits_go_on (byte ∷ digits) t = (digit_goes_on byte (and_both (is_ascii_digit byte) (all_ascii_digits digits) t).0, digits_go_on digits (and_both (is_ascii_digit byte) (all_ascii_digits digits) t).1)
+digits_go_on (byte ∷ digits) t = grind (arith, digit_goes_on, digits_go_on digits)
 
 decimal_goes_on : (n : ℕ) → n < 2 ^ 64 → AreNameBytes (decimal n)
 decimal_goes_on n short = digits_go_on (decimal n) (digits_decimal (numerals_by_value (λ digits. all_ascii_digits digits ≡ true) tells_all_ascii_digits) n short)
@@ -40,9 +37,8 @@ clause_again : (clauses : List ClauseTree) (number : ℕ) (clause : ClauseTree) 
 unfolding clause_at
 clause_again clauses number clause rest few there apart =
     let below = slice_get_within clauses number clause there in
-    let on : number + 1 ≡ suc number = omega arith in
     let letters = decimal_goes_on (number + 1) (omega arith) in
-    rw (front_is (decimal (number + 1)) rest letters apart, numbered_again (length clauses) number (decimal (number + 1)) (omega arith) below (ap decimal on), there, behind_is (decimal (number + 1)) rest letters apart) refl
+    rw (front_is (decimal (number + 1)) rest letters apart, numbered_again (length clauses) number (decimal (number + 1)) (omega arith) below (ap decimal (add-one number)), there, behind_is (decimal (number + 1)) rest letters apart) refl
 
 -- A node's clause is there, its values are read, and there is one derivation for each goal.
 pub record NodeRead (program : Parts) (value : ℕ → Reader Tree) (number : ℕ) (values : List Tree) (subs : ProofTrees) : Type 0 where
@@ -99,22 +95,17 @@ mutual
   pub proof_again : (program : Parts) (value : ℕ → Reader Tree) → IsProgram program → (proof : ProofTree) (height : ℕ) (rest : List ℕ) → IsRead program value proof → proof_height proof ≤ height
       → proof_at program value height (proof_text program proof ++ rest) ≡ Some (proof, rest)
   proof_again program value keeps (by_clause number values subs) height rest read low =
-      let more : height ≡ suc (height - 1) = omega arith in
-      let inner : greatest_height subs ≤ height - 1 = omega arith in
-      proof_more program value height (height - 1) (proof_text program (by_clause number values subs) ++ rest) more
+      proof_more program value height (height - 1) (proof_text program (by_clause number values subs) ++ rest) (omega arith)
       ∙ node_again program value (proof_at program value (height - 1)) number values subs rest keeps read.0
-      (λ behind. proofs_again program value keeps subs (height - 1) read.0.clause.goals behind read.1 read.0.many inner)
+      (λ behind. proofs_again program value keeps subs (height - 1) read.0.clause.goals behind read.1 read.0.many (omega arith))
 
   pub proofs_again : (program : Parts) (value : ℕ → Reader Tree) → IsProgram program → (proofs : ProofTrees) (height : ℕ) (goals : List AtomTree) (rest : List ℕ) → AllAreRead program value proofs → AreAsMany proofs goals → greatest_height proofs ≤ height
       → proofs_at (proof_at program value height) (length goals) (proofs_text program proofs ++ rest) ≡ Some (proofs, rest)
   proofs_again program value keeps no_goal height [] rest read many low = refl
-  proofs_again program value keeps no_goal height (goal ∷ goals) rest read many low = absurd many
-  proofs_again program value keeps (goal_by proof proofs) height [] rest read many low = absurd many
   proofs_again program value keeps (goal_by proof proofs) height (goal ∷ goals) rest read many low =
-      let first : proof_height proof ≤ height = omega arith in
-      let then_others : greatest_height proofs ≤ height = omega arith in
       let behind = proofs_text program proofs ++ rest in
-      let one = proof_again program value keeps proof height behind read.0 first in
-      let all = proofs_again program value keeps proofs height goals rest read.1 many then_others in
+      let one = proof_again program value keeps proof height behind read.0 (omega arith) in
+      let all = proofs_again program value keeps proofs height goals rest read.1 many (omega arith) in
       ap (λ bytes. proofs_at (proof_at program value height) (length (goal ∷ goals)) (codes " " ++ bytes)) (append_assoc (proof_text program proof) (proofs_text program proofs) rest)
       ∙ rw (literal_again (codes " ") (proof_text program proof ++ behind), one, all) refl
+  proofs_again program value keeps proofs height goals rest read many low = absurd many

@@ -1,17 +1,17 @@
 -- What is read as a derivation is the text of one.
-use Rattle.std.proofs.Common.{◌≡◌, ◌≢◌, ℕ, zero, suc, ◌<◌, ◌^◌, Bool, true, false, cond, List, Some, None, refl, sym, ◌∙◌, bytes_eq, arith, ◌+◌, ◌≤◌, [], ◌++◌, length, take-append-drop, slice_get, codes, Option, IsSomeAnd, ap, subst, append_assoc}
+use Rattle.std.proofs.Common.{add-one, ◌≡◌, ◌≢◌, ℕ, zero, suc, ◌<◌, ◌^◌, List, Some, None, refl, sym, ◌∙◌, arith, ◌+◌, ◌≤◌, [], ◌++◌, length, take-append-drop, slice_get, codes, ap, subst, append_assoc}
 use Rattle.std.proofs.lemmas.Fmt.{decimal_injective}
 use Rattle.std.proofs.lemmas.Slice.Eq.{bytes_eq-Decides}
 use Rattle.std.specs.List.{AllByRecursion}
 use Rattle.std.specs.Prelude.{decimal}
+use Rattle.cep_base.proofs.Options.{some_and}
 use Rattle.cep_text.proofs.GivensRead.{givens_found}
 use Rattle.cep_text.proofs.ValuesFound.{literal_found}
-use Rattle.cep_text.proofs.TableLemmas.{bytes_apart, some_is, by_bind, all_at}
+use Rattle.cep_text.proofs.TableLemmas.{bytes_apart, some_is, by_bind, by_some, all_at}
 use Rattle.cep_text.specs.Texts.{all_given_text, begin_text, proof_text, proofs_text}
 use Rattle.cep_text.specs.Reading.{numbered_by, Reader, literal_at, name_len, front_name, behind_name, small_at, givens_at, clause_at, begin_at, proofs_at, node_at, proof_at}
-use Rattle.cep_base.proofs.Bytes.{bytes_apart as apart}
 use Rattle.cep_term.specs.Tree.{Tree, AtomTree}
-use Rattle.cep_rule.specs.Derivations.{ProofTree, ProofTrees, by_clause, no_goal, goal_by, proof_height, greatest_height}
+use Rattle.cep_rule.specs.Derivations.{ProofTree, ProofTrees, goal_by, proof_height, greatest_height}
 use Rattle.cep_rule.specs.Patterns.{ClauseTree}
 use Rattle.cep_rule.specs.Program.{IsProgram, IsTypedClause}
 use Rattle.cep_rule.specs.Typing.{AreValues}
@@ -33,18 +33,12 @@ numbered_other most number word is short few other = numbered_none most word (λ
 pub numbered_again : (most n : ℕ) (word : List ℕ) → most < 2 ^ 32 → n < most → word ≡ decimal (suc n) → numbered_by most word ≡ Some n
 unfolding numbered_by
 numbered_again zero n word few below is = absurd (omega arith)
-numbered_again (suc place) n word few below is = cases (bytes_eq (decimal (suc place)) word) refl (numbered_again place n word (omega arith)) where
-  cases : (same : Bool) → bytes_eq (decimal (suc place)) word ≡ same → (n < place → word ≡ decimal (suc n) → numbered_by place word ≡ Some n) → cond same (Some place) (numbered_by place word) ≡ Some n
-  cases true t later = grind (arith, decimal_injective, bytes_eq-Decides)
-  cases false t later = grind (arith, apart)
+numbered_again (suc place) n word few below is = grind (arith, decimal_injective, bytes_eq-Decides (decimal (suc place)) word, numbered_again place n word)
 
 pub numbered_found : (most : ℕ) (word : List ℕ) (n : ℕ) → numbered_by most word ≡ Some n → (n < most) × (word ≡ decimal (suc n))
 unfolding numbered_by
 numbered_found zero word n e = absurd cc
-numbered_found (suc place) word n e = cases (bytes_eq (decimal (suc place)) word) refl (numbered_found place word n) e where
-  cases : (same : Bool) → bytes_eq (decimal (suc place)) word ≡ same → (numbered_by place word ≡ Some n → (n < place) × (word ≡ decimal (suc n))) → cond same (Some place) (numbered_by place word) ≡ Some n → (n < suc place) × (word ≡ decimal (suc n))
-  cases true t later e = grind (arith, some_is, bytes_eq-Decides)
-  cases false t later e = let found = later e in (let below = found.0 in omega arith, found.1)
+numbered_found (suc place) word n e = grind (arith, some_is, bytes_eq-Decides (decimal (suc place)) word, numbered_found place word n)
 
 -- a clause that is read
 pub record ClauseFound (clauses : List ClauseTree) (bytes : List ℕ) (number : ℕ) (clause : ClauseTree) (rest : List ℕ) : Type 0 where
@@ -56,13 +50,9 @@ unfolding clause_at
 clause_found clauses bytes number clause rest e =
     by_bind (numbered_by (length clauses) (front_name bytes)) _ _ e (λ n n-is e.
     by_bind (slice_get clauses n) _ _ e (λ found found-is e.
-    let read : (ℕ × ClauseTree) × List ℕ = ((n, found), behind_name bytes) in
-    let wanted : (ℕ × ClauseTree) × List ℕ = ((number, clause), rest) in
-    let pair = some_is read wanted e in
-    let on : n + 1 ≡ suc n = omega arith in
-    let name : front_name bytes ≡ decimal (n + 1) = (numbered_found (length clauses) (front_name bytes) n n-is).1 ∙ ap decimal (sym on) in
-    let text : bytes ≡ decimal (n + 1) ++ behind_name bytes = sym (take-append-drop (name_len bytes) bytes) ∙ ap (λ front. front ++ behind_name bytes) name in
-    subst (λ (x : (ℕ × ClauseTree) × List ℕ). ClauseFound clauses bytes x.0.0 x.0.1 x.1) pair (record { numbered = found-is; text = text })))
+    let name : front_name bytes ≡ decimal (n + 1) = (numbered_found (length clauses) (front_name bytes) n n-is).1 ∙ ap decimal (sym (add-one n)) in
+    by_some (λ (x : (ℕ × ClauseTree) × List ℕ). ClauseFound clauses bytes x.0.0 x.0.1 x.1) _ ((number, clause), rest) e
+    (record { numbered = found-is; text = sym (take-append-drop (name_len bytes) bytes) ∙ ap (λ front. front ++ behind_name bytes) name })))
 
 pub clause_as_many : (program : Parts) (number : ℕ) (clause : ClauseTree) → IsProgram program → slice_get program.clauses number ≡ Some clause → length clause.kinds ≡ length clause.vars
 clause_as_many program number clause keeps there = (all_at (IsTypedClause program.signature) program.clauses number clause keeps.typed_clauses there).kinds
@@ -87,13 +77,10 @@ begin_found program bytes number values goals rest keeps e =
     by_bind (literal_at (codes "[") bytes) _ _ e (λ bracket bracket-is e.
     by_bind (clause_at program.clauses bracket) _ _ e (λ clause clause-is e.
     by_bind (givens_at (small_at program.signature.cons) clause.0.1.vars clause.0.1.kinds [] clause.1) _ _ e (λ given given-is e.
-    let read : (ℕ × List Tree × ℕ) × List ℕ = ((clause.0.0, given.0, length clause.0.1.goals), given.1) in
-    let wanted : (ℕ × List Tree × ℕ) × List ℕ = ((number, values, goals), rest) in
-    let pair = some_is read wanted e in
     let head = clause_found program.clauses bracket clause.0.0 clause.0.1 clause.1 clause-is in
     let found = givens_found program.signature clause.0.1.vars clause.0.1.kinds [] clause.1 given.0 given.1 (clause_as_many program clause.0.0 clause.0.1 keeps head.numbered) given-is in
     let same : found.values ≡ given.0 = sym found.behind in
-    subst (λ (x : (ℕ × List Tree × ℕ) × List ℕ). BeginFound program bytes x.0.0 x.0.1 x.0.2 x.1) pair (record {
+    by_some (λ (x : (ℕ × List Tree × ℕ) × List ℕ). BeginFound program bytes x.0.0 x.0.1 x.0.2 x.1) _ ((number, values, goals), rest) e (record {
       clause = clause.0.1;
       numbered = head.numbered;
       typed = subst (AreValues program.signature.cons clause.0.1.kinds) same found.typed;
@@ -123,9 +110,6 @@ pub record ProofsFound (program : Parts) (height goals : ℕ) (bytes : List ℕ)
 abbrev pub IsSoundProof : Parts → ℕ → Reader ProofTree → Type 0
 IsSoundProof program height read = (bytes : List ℕ) (proof : ProofTree) (rest : List ℕ) → read bytes ≡ Some (proof, rest) → ProofFound program height bytes proof rest
 
-none_as_many : (atoms : List AtomTree) → length atoms ≡ 0 → AreAsMany no_goal atoms
-none_as_many atoms e = grind arith
-
 more_as_many : (goals : ℕ) (proof : ProofTree) (proofs : ProofTrees) → ((atoms : List AtomTree) → length atoms ≡ goals → AreAsMany proofs atoms) → (atoms : List AtomTree) → length atoms ≡ suc goals → AreAsMany (goal_by proof proofs) atoms
 more_as_many goals proof proofs many atoms e = grind arith
 
@@ -133,29 +117,21 @@ proofs_found : (program : Parts) (height : ℕ) (read : Reader ProofTree) → Is
     → (goals : ℕ) (bytes : List ℕ) (proofs : ProofTrees) (rest : List ℕ) → proofs_at read goals bytes ≡ Some (proofs, rest) → ProofsFound program height goals bytes proofs rest
 unfolding proofs_at
 proofs_found program height read sound zero bytes proofs rest e =
-    let got : ProofTrees × List ℕ = (no_goal, bytes) in
-    let pair = some_is got (proofs, rest) e in
-    subst (λ (x : ProofTrees × List ℕ). ProofsFound program height zero bytes x.0 x.1) pair (record { as_many = none_as_many; of_clauses = tt; small = tt; low = omega arith; text = refl })
+    by_some (λ (x : ProofTrees × List ℕ). ProofsFound program height zero bytes x.0 x.1) _ (proofs, rest) e (record { as_many = λ atoms none. grind (arith, none); of_clauses = tt; small = tt; low = omega arith; text = refl })
 proofs_found program height read sound (suc goals) bytes proofs rest e =
     by_bind (literal_at (codes " ") bytes) _ (proofs, rest) e (λ space space-is e.
     by_bind (read space) _ (proofs, rest) e (λ first first-is e.
     by_bind (proofs_at read goals first.1) _ (proofs, rest) e (λ others others-is e.
-    let got : ProofTrees × List ℕ = (goal_by first.0 others.0, others.1) in
-    let pair = some_is got (proofs, rest) e in
     let one = sound space first.0 first.1 first-is in
     let all = proofs_found program height read sound goals first.1 others.0 others.1 others-is in
-    subst (λ (x : ProofTrees × List ℕ). ProofsFound program height (suc goals) bytes x.0 x.1) pair (record {
+    by_some (λ (x : ProofTrees × List ℕ). ProofsFound program height (suc goals) bytes x.0 x.1) _ (proofs, rest) e (record {
       as_many = more_as_many goals first.0 others.0 all.as_many;
       of_clauses = (one.of_clauses, all.of_clauses);
       small = (one.small, all.small);
-      low = let a = one.low in let b = all.low in omega arith;
+      low = omega (arith, one.low, all.low);
       text = literal_found (codes " ") bytes space space-is
           ∙ ap (λ text. codes " " ++ text) (one.text ∙ ap (λ text. proof_text program first.0 ++ text) all.text ∙ sym (append_assoc (proof_text program first.0) (proofs_text program others.0) others.1));
     }))))
-
--- what holds of the clause that is found
-told : (P : ClauseTree → Type 0) (found : Option ClauseTree) (clause : ClauseTree) → found ≡ Some clause → P clause → IsSomeAnd found P
-told P found clause e p = grind arith
 
 node_found : (program : Parts) (height : ℕ) (read : Reader ProofTree) → IsProgram program → IsSoundProof program height read
     → (bytes : List ℕ) (proof : ProofTree) (rest : List ℕ) → node_at program (small_at program.signature.cons) read bytes ≡ Some (proof, rest) → ProofFound program (suc height) bytes proof rest
@@ -164,21 +140,18 @@ node_found program height read keeps sound bytes proof rest e =
     by_bind (begin_at program (small_at program.signature.cons) bytes) _ (proof, rest) e (λ begun begun-is e.
     by_bind (proofs_at read begun.0.2 begun.1) _ (proof, rest) e (λ subs subs-is e.
     by_bind (literal_at (codes "]") subs.1) _ (proof, rest) e (λ behind behind-is e.
-    let got : ProofTree × List ℕ = (by_clause begun.0.0 begun.0.1 subs.0, behind) in
-    let pair = some_is got (proof, rest) e in
     let head = begin_found program bytes begun.0.0 begun.0.1 begun.0.2 begun.1 keeps begun-is in
     let all = proofs_found program height read sound begun.0.2 begun.1 subs.0 subs.1 subs-is in
-    let clauses = program.clauses in
     let start = begin_text program begun.0.0 begun.0.1 in
     let goals = proofs_text program subs.0 in
-    subst (λ (x : ProofTree × List ℕ). ProofFound program (suc height) bytes x.0 x.1) pair (record {
+    by_some (λ (x : ProofTree × List ℕ). ProofFound program (suc height) bytes x.0 x.1) _ (proof, rest) e (record {
       of_clauses = (
-        told (λ clause. AreValues program.signature.cons clause.kinds begun.0.1) (slice_get clauses begun.0.0) head.clause head.numbered head.typed,
-        told (λ clause. AreAsMany subs.0 clause.goals) (slice_get clauses begun.0.0) head.clause head.numbered (all.as_many head.clause.goals head.as_many),
+        some_and _ _ (λ clause. AreValues program.signature.cons clause.kinds begun.0.1) head.numbered head.typed,
+        some_and _ _ (λ clause. AreAsMany subs.0 clause.goals) head.numbered (all.as_many head.clause.goals head.as_many),
         all.of_clauses,
       );
       small = (head.small, all.small);
-      low = let low = all.low in omega arith;
+      low = omega (arith, all.low);
       text = head.text
           ∙ ap (λ text. start ++ text) (all.text ∙ ap (λ text. goals ++ text) (literal_found (codes "]") subs.1 behind behind-is) ∙ sym (append_assoc goals (codes "]") behind))
           ∙ sym (append_assoc start (goals ++ codes "]") behind);

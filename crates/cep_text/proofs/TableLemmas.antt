@@ -1,5 +1,5 @@
 -- Names and their numbers in a table.
-use Rattle.std.proofs.Common.{◌≡◌, ◌≢◌, ℕ, zero, suc, ◌<◌, Bool, true, false, cond, List, [], ◌∷◌, length, take, map, slice_get, Option, Some, None, refl, ap, subst, ◌∙◌, bytes_eq, arith, sym, ◌+◌, ◌++◌, position}
+use Rattle.std.proofs.Common.{◌≡◌, ◌≢◌, ℕ, zero, suc, ◌<◌, Bool, true, false, cond, List, [], ◌∷◌, length, take, map, slice_get, Option, Some, None, refl, ap, subst, ◌∙◌, bytes_eq, arith, sym, ◌+◌, position}
 use Rattle.std.proofs.lemmas.Iterator.Adapters.{position_from-zero}
 use Rattle.std.proofs.lemmas.Option.{slice_get-map, slice_get_within}
 use Rattle.std.proofs.lemmas.Slice.Eq.{bytes_eq-Decides}
@@ -13,6 +13,7 @@ use Rattle.cep_text.specs.StageNames.{IsStageNamed}
 pub use Rattle.cep_base.proofs.Lists.{some_same as some_is, holds_at as all_at}
 pub use Rattle.cep_base.proofs.Bytes.{bytes_differ as bytes_apart}
 use Rattle.cep_base.proofs.Bytes.{bytes_eq_sym}
+use Rattle.cep_base.proofs.Options.{item_at}
 
 -- The number of a name among names.
 
@@ -22,6 +23,10 @@ by_bind r f y e next = grind arith
 
 pub guard_some : {A : Type 0} (b : Bool) (x y : A) → cond b (Some x) None ≡ Some y → (b ≡ true) × (x ≡ y)
 guard_some b x y e = grind arith
+
+-- what holds of what is read holds of what is wanted
+pub by_some : {A : Type 0} (P : A → Type 0) (read wanted : A) → Some read ≡ Some wanted → P read → P wanted
+by_some P read wanted e here = subst P (some_is read wanted e) here
 
 pub none_is : {A : Type 0} (y : A) (r : Option A) → r ≡ None → r ≡ Some y → ⊥
 none_is y r a b = absurd cc
@@ -59,6 +64,10 @@ number_is (other ∷ names) name i e = cases (bytes_eq other name) refl e (numbe
   cases true t e more = let p : zero ≡ i = cc in subst (λ (i : ℕ). slice_get (other ∷ names) i ≡ Some name) p (ap Some ((bytes_eq-Decides other name).0 t))
   cases false t e more = grind (arith, by_bind, some_is)
 
+-- an item whose number is that of a name has it
+pub item_named : {X : Type 0} (name_of : X → List ℕ) (items : List X) (name : List ℕ) (n : ℕ) (item : X) → number_among (map name_of items) name ≡ Some n → slice_get items n ≡ Some item → name_of item ≡ name
+item_named name_of items name n item is there = some_is (name_of item) name (sym (item_name name_of items n item there) ∙ number_is (map name_of items) name n is)
+
 pub number_within : {X : Type 0} (name_of : X → List ℕ) (items : List X) (name : List ℕ) (i : ℕ) → number_among (map name_of items) name ≡ Some i → i < length items
 number_within name_of items name i e = omega (arith, slice_get_within (map name_of items) i name (number_is (map name_of items) name i e), length-map items name_of)
 
@@ -66,14 +75,8 @@ number_within name_of items name i e = omega (arith, slice_get_within (map name_
 pub not_among : (names : List (List ℕ)) (name : List ℕ) (i : ℕ) → number_among names name ≡ None → slice_get names i ≡ Some name → ⊥
 unfolding number_among
 not_among [] name i none e = absurd cc
-not_among (other ∷ names) name zero none e =
-    let parts = first_apart (bytes_eq other name) (number_among names name) none in
-    let p : other ≡ name = cc in
-    let same : bytes_eq other name ≡ true = (bytes_eq-Decides other name).1 p in
-    let apart = parts.0 in absurd cc
-not_among (other ∷ names) name (suc i) none e =
-    let parts = first_apart (bytes_eq other name) (number_among names name) none in
-    not_among names name i parts.1 e
+not_among (other ∷ names) name zero none e = grind (arith, first_apart (bytes_eq other name) (number_among names name) none, bytes_eq-Decides other name)
+not_among (other ∷ names) name (suc i) none e = not_among names name i (first_apart (bytes_eq other name) (number_among names name) none).1 e
 
 -- Stages that are found by their names.
 
@@ -81,13 +84,9 @@ pub stage_number : (stages : List Stage) (table : List (List ℕ)) (name : List 
 stage_number stages table name found holds is = sym (is ∙ ap (λ names. number_among names name) holds)
 
 pub stage_found : (stages : List Stage) (name : List ℕ) (number : ℕ) → number_among (stage_names stages) name ≡ Some number → IsStageNamed stages number name
-stage_found stages name number is = by_place (slice_get stages number) refl where
-  named : option_map (λ stage. stage.name) (slice_get stages number) ≡ Some name
-  named = sym (slice_get-map (λ stage. stage.name) stages number) ∙ number_is (stage_names stages) name number is
-
-  by_place : (found : Option Stage) → slice_get stages number ≡ found → IsStageNamed stages number name
-  by_place None e = let p = sym (ap (option_map (λ stage. stage.name)) e) ∙ named in absurd cc
-  by_place (Some stage) e = (stage, e, some_is stage.name name (sym (ap (option_map (λ stage. stage.name)) e) ∙ named))
+stage_found stages name number is =
+    let found = item_at stages number (number_within (λ stage. stage.name) stages name number is) in
+    (found.0, found.1, item_named (λ stage. stage.name) stages name number found.0 is found.1)
 
 pub no_stage : (stages : List Stage) (name : List ℕ) → number_among (stage_names stages) name ≡ None → (number : ℕ) → IsStageNamed stages number name → ⊥
 no_stage stages name is number named = not_among (stage_names stages) name number is (slice_get-map (λ stage. stage.name) stages number ∙ ap (option_map (λ stage. stage.name)) named.1 ∙ ap Some named.2)
@@ -103,10 +102,6 @@ next_differs (other ∷ names) (suc i) name differ e =
     let apart : other ≢ name = all_at (λ name. other ≢ name) names i name differ.0 e in
     rw (bytes_apart other name apart, next_differs names i name differ.1 e) refl
 
-pub take_next : (names : List (List ℕ)) (i : ℕ) (name : List ℕ) → slice_get names i ≡ Some name → take (suc i) names ≡ take i names ++ name ∷ []
-take_next (other ∷ names) (suc i) name e = ap (λ (front : List (List ℕ)). other ∷ front) (take_next names i name e)
-take_next names i name e = grind arith
-
 -- the place of a name of which that of the first name is not known, counted from a number
 shifted : (same : Bool) (i : ℕ) (found rest : Option ℕ) → found ≡ (rest >>= λ number. Some (i + 1 + number)) → cond same (Some i) found ≡ (cond same (Some zero) (rest >>= λ number. Some (suc number)) >>= λ number. Some (i + number))
 shifted same i found rest e = grind arith
@@ -115,9 +110,7 @@ module _ {K : Type 0} (name_of : K → List ℕ) where
   pub none_seen : (name : List ℕ) (keys : List K) → number_among (map name_of keys) name ≡ None → list_any (λ key. bytes_eq name (name_of key)) keys ≡ false
   unfolding number_among
   none_seen name [] e = refl
-  none_seen name (key ∷ keys) e =
-      let parts = first_apart (bytes_eq (name_of key) name) (number_among (map name_of keys) name) e in
-      rw (bytes_eq_sym name (name_of key), parts.0) (none_seen name keys parts.1)
+  none_seen name (key ∷ keys) e = let parts = first_apart (bytes_eq (name_of key) name) (number_among (map name_of keys) name) e in rw (bytes_eq_sym name (name_of key), parts.0) (none_seen name keys parts.1)
 
   from_seen : (name : List ℕ) (i : ℕ) (keys : List K) → position_from (λ key. bytes_eq name (name_of key)) i keys ≡ (number_among (map name_of keys) name >>= λ number. Some (i + number))
   unfolding number_among

@@ -1,19 +1,19 @@
 -- Whole texts of terms and atoms.
-use Rattle.std.proofs.Common.{◌≡◌, ℕ, ◌-◌, ◌<◌, ◌≤◌, true, eqb, nat_le, List, [], ◌∷◌, ◌++◌, length, slice_get, Option, Some, None, IsSomeAnd, refl, sym, ap, subst, ◌∙◌, arith, append-nil}
-use Rattle.std.proofs.lemmas.Bool.{eqb-true, leb-true, le-leb}
+use Rattle.std.proofs.Common.{◌≡◌, ℕ, ◌-◌, ◌<◌, ◌≤◌, eqb, nat_le, List, [], ◌++◌, length, slice_get, Option, Some, None, IsSomeAnd, refl, sym, ap, subst, ◌∙◌, arith, append-nil}
+use Rattle.std.proofs.lemmas.Bool.{leb-true, le-leb}
 use Rattle.cep_base.specs.declared.limits.TheConstants.{MOST_DEPTH, MOST_NODES}
 use Rattle.cep_term.specs.Tree.{Tree, Trees, AtomTree, variable, node, IsGround, AreGround, IsFit, term_nodes, argument_nodes, argument_depth}
 use Rattle.cep_rule.specs.Names.{AreNames}
 use Rattle.cep_rule.specs.Program.{IsProgram}
 use Rattle.cep_rule.specs.Shapes.{IsSmallTerm}
 use Rattle.cep_rule.specs.declared.parts.Parts.{Parts}
-use Rattle.cep_rule.specs.declared.signature.Con.{Con}
 use Rattle.cep_rule.specs.Typing.{HasSort, HaveSorts, IsValue}
 use Rattle.cep_rule.specs.declared.signature.PredDecl.{PredDecl}
 use Rattle.cep_rule.specs.declared.signature.Signature.{Signature}
+use Rattle.cep_base.proofs.Options.{some_and}
 use Rattle.cep_text.proofs.Heads.{IsApart, pred_found, pred_again}
 use Rattle.cep_text.proofs.TableLemmas.{by_bind, guard_some, none_is, all_at}
-use Rattle.cep_text.proofs.ValuesFound.{FoundAll, value_found, arguments_found, con_of, value_again, arguments_again, args_apart}
+use Rattle.cep_text.proofs.ValuesFound.{no_kinds as no_items, FoundAll, value_found, arguments_found, con_of, value_again, arguments_again, args_apart}
 use Rattle.cep_text.specs.Reading.{◌>>=◌, con_names, pred_names, pred_at, arguments_at, value_at, small_at, whole, term_read, atom_read}
 use Rattle.cep_text.specs.Reads.{IsTermText, IsAtomText}
 use Rattle.cep_text.specs.Texts.{pred_name, term_text, args_text}
@@ -46,10 +46,7 @@ small_again signature names t sort rest value small apart =
 pub whole_is : {X : Type 0} (read : X × List ℕ) (x : X) → whole read ≡ Some x → (read.0 ≡ x) × (read.1 ≡ [])
 whole_is read x e =
     let parts = guard_some (eqb (length read.1) 0) read.0 x e in
-    (parts.1, empty read.1 parts.0) where
-      empty : (bytes : List ℕ) → eqb (length bytes) 0 ≡ true → bytes ≡ []
-      empty [] e = refl
-      empty (byte ∷ bytes) e = let is = eqb-true (length (byte ∷ bytes)) 0 e in absurd (omega arith)
+    (parts.1, no_items read.1 parts.0)
 
 pub term_some : (program : Parts) (sort : ℕ) (bytes : List ℕ) (t : Tree) → term_read program.signature.cons sort bytes ≡ Some t → IsTermText program sort bytes t
 unfolding term_read
@@ -66,11 +63,9 @@ term_some program sort bytes t e =
 pub term_none : (program : Parts) (sort : ℕ) (bytes : List ℕ) → IsProgram program → term_read program.signature.cons sort bytes ≡ None → (t : Tree) → IsTermText program sort bytes t → ⊥
 unfolding term_read
 term_none program sort bytes keeps e t is =
-    let text = term_text program.signature t in
     let again = small_again program.signature keeps.named.cons t sort [] is.value is.small refl in
-    let read : small_at program.signature.cons sort bytes ≡ Some (t, []) = ap (small_at program.signature.cons sort) (is.text ∙ sym (append-nil text)) ∙ again in
-    let shown : (small_at program.signature.cons sort bytes >>= λ value. whole value) ≡ Some t = rw read refl in
-    none_is t (small_at program.signature.cons sort bytes >>= λ value. whole value) e shown
+    let read : small_at program.signature.cons sort bytes ≡ Some (t, []) = ap (small_at program.signature.cons sort) (is.text ∙ sym (append-nil (term_text program.signature t))) ∙ again in
+    none_is t (small_at program.signature.cons sort bytes >>= λ value. whole value) e (rw read refl)
 
 -- there is no value of a type that is not there
 pub no_sort : (program : Parts) (sort : ℕ) (bytes : List ℕ) → IsProgram program → length program.signature.sorts ≤ sort → (t : Tree) → IsTermText program sort bytes t → ⊥
@@ -79,12 +74,7 @@ no_sort program sort bytes keeps past t is = of_tree t is.value.ground is.value.
   of_tree (variable v) g typed = g
   of_tree (node number args) g typed =
       let of = con_of program.signature.cons sort number args (slice_get program.signature.cons number) refl typed in
-      let within = all_at (λ con. con.sort < length program.signature.sorts) program.signature.cons number of.con keeps.in_range.con_sorts of.numbered in
-      let same = of.of_type in
-      omega arith
-
-pred_typed : (cons : List Con) (args : Trees) (found : Option PredDecl) (pred : PredDecl) → found ≡ Some pred → HaveSorts cons [] pred.args args → IsSomeAnd found (λ pred. HaveSorts cons [] pred.args args)
-pred_typed cons args found pred e typed = grind arith
+      omega (arith, all_at (λ con. con.sort < length program.signature.sorts) program.signature.cons number of.con keeps.in_range.con_sorts of.numbered, of.of_type)
 
 -- the predicate of an atom that is well typed
 pub record PredOf (signature : Signature) (a : AtomTree) : Type 0 where
@@ -110,7 +100,7 @@ atom_some program bytes a e =
     let nodes = leb-true (argument_nodes all) (MOST_NODES - 1) parts.0 in
     let typed = subst (λ kinds. HaveSorts signature.cons [] kinds all) (sym head.args) found.typed in
     subst (IsAtomText program bytes) parts.1 (record {
-      well_typed = record { is_ground = found.is_ground; typed = pred_typed signature.cons all (slice_get signature.preds pred.0.0) head.pred head.numbered typed };
+      well_typed = record { is_ground = found.is_ground; typed = some_and _ _ (λ pred. HaveSorts signature.cons [] pred.args all) head.numbered typed };
       fit = record { nodes = omega arith; depth = let low = found.low in omega arith };
       text = head.text
           ∙ ap (λ text. head.pred.name ++ text) (found.text ∙ ap (λ rest. args_text signature all ++ rest) ended.1 ∙ append-nil (args_text signature all))

@@ -1,9 +1,11 @@
 -- What is read as a term is the text of one, and the text of a term is read as that term.
-use Rattle.std.proofs.Common.{◌≡◌, ◌≢◌, ℕ, Bool, cond, eqb, List, [], ◌∷◌, ◌++◌, Option, Some, None, MatchOption, refl, ap, ◌∙◌, Bor, arith, zero, suc, ◌≤◌, true, false, length, slice_get, codes, IsSomeAnd, sym, subst, append_assoc, append-nil, ◌+◌, drop, ◌-◌}
+use Rattle.std.proofs.Common.{◌≡◌, ◌≢◌, ℕ, cond, eqb, List, [], ◌∷◌, ◌++◌, Option, Some, None, MatchOption, refl, ap, ◌∙◌, Bor, arith, zero, suc, ◌≤◌, true, false, length, slice_get, codes, IsSomeAnd, sym, subst, append_assoc, append-nil, ◌+◌, drop, ◌-◌}
 use Rattle.std.proofs.Math.Dec.{eqb-suc-zero}
 use Rattle.std.proofs.lemmas.Bool.{eqb-true, eq-eqb}
+use Rattle.std.proofs.lemmas.List.{drop_all}
+use Rattle.cep_base.proofs.Options.{some_and}
 use Rattle.cep_text.proofs.Heads.{con_found, IsApart, con_again, no_parenthesis}
-use Rattle.cep_text.proofs.TableLemmas.{by_bind, guard_some, some_is, all_at, item_name}
+use Rattle.cep_text.proofs.TableLemmas.{by_bind, by_some, guard_some, all_at, item_name}
 use Rattle.cep_text.specs.Reading.{literal_at, Reader, con_at, bare_at, argument_at, arguments_at, inside_at, enclosed_at, value_by, value_at, ◌>>=◌, Fails, given_at, givens_at, proofs_at, node_at, proof_at, con_names}
 use Rattle.cep_text.specs.Texts.{con_name, term_text, args_text}
 use Rattle.cep_text.specs.declared.stop.Stop.{Stop}
@@ -14,8 +16,7 @@ use Rattle.cep_rule.specs.declared.signature.Signature.{Signature}
 use Rattle.cep_rule.specs.Names.{IsName, AreNames}
 use Rattle.cep_rule.specs.declared.parts.Parts.{Parts}
 use Rattle.cep_rule.specs.declared.signature.Con.{Con}
-use Rattle.cep_text.specs.declared.stop.Stop.TheVariants as stops
-use Rattle.cep_base.proofs.Drops.{drop_at-suc as from_place}
+use Rattle.cep_base.proofs.Drops.{drop_at as from_place}
 
 -- Words at the front of a list.
 
@@ -24,10 +25,6 @@ unfolding literal_at
 literal_again [] rest = refl
 literal_again (letter ∷ word) rest = rw (eq-eqb letter letter refl) (literal_again word rest)
 
--- one byte of a word, after the test whether it is there
-found_byte : (letter byte : ℕ) (same : Bool) → eqb letter byte ≡ same → (word bytes rest : List ℕ) → (literal_at word bytes ≡ Some rest → bytes ≡ word ++ rest) → cond same (literal_at word bytes) None ≡ Some rest → byte ∷ bytes ≡ (letter ∷ word) ++ rest
-found_byte letter byte same t word bytes rest further e = grind (arith, eqb-true)
-
 none_from : (r : Option (List ℕ)) → ((rest : List ℕ) → r ≡ Some rest → ⊥) → r ≡ None
 none_from r h = grind arith
 
@@ -35,7 +32,7 @@ pub literal_found : (word bytes rest : List ℕ) → literal_at word bytes ≡ S
 unfolding literal_at
 literal_found [] bytes rest e = cc
 literal_found (letter ∷ word) [] rest e = absurd cc
-literal_found (letter ∷ word) (byte ∷ bytes) rest e = found_byte letter byte (eqb letter byte) refl word bytes rest (literal_found word bytes rest) e
+literal_found (letter ∷ word) (byte ∷ bytes) rest e = grind (arith, eqb-true, literal_found word bytes rest)
 
 -- what `strip_prefix` says
 pub literal_is : (word bytes : List ℕ) (r : Option (Bor (List ℕ))) → MatchOption r ((rest : List ℕ) → bytes ≢ word ++ rest) (λ rest. bytes ≡ word ++ rest.now) → MatchOption r (literal_at word bytes ≡ None) (λ rest. literal_at word bytes ≡ Some rest.now)
@@ -72,20 +69,16 @@ pub arguments_found : (signature : Signature) (depth : ℕ) (value : ℕ → Rea
     → (sorts bytes : List ℕ) (args : Trees) (rest : List ℕ) → arguments_at value sorts bytes ≡ Some (args, rest) → FoundAll signature depth sorts bytes args rest
 unfolding arguments_at
 arguments_found signature depth value sound [] bytes args rest e =
-    let read : Trees × List ℕ = (none, bytes) in
-    let pair = some_is read (args, rest) e in
-    subst (λ (x : Trees × List ℕ). FoundAll signature depth [] bytes x.0 x.1) pair (record { is_ground = tt; typed = tt; low = omega arith; text = refl })
+    by_some (λ (x : Trees × List ℕ). FoundAll signature depth [] bytes x.0 x.1) _ (args, rest) e (record { is_ground = tt; typed = tt; low = omega arith; text = refl })
 arguments_found signature depth value sound (sort ∷ sorts) bytes args rest e =
     by_bind (argument_at (value sort) bytes) _ (args, rest) e (λ first first-is e.
     by_bind (arguments_at value sorts first.1) _ (args, rest) e (λ others others-is e.
     let one = argument_found signature depth value sound sort bytes first.0 first.1 first-is in
     let rest_found = arguments_found signature depth value sound sorts first.1 others.0 others.1 others-is in
-    let read : Trees × List ℕ = (more first.0 others.0, others.1) in
-    let pair = some_is read (args, rest) e in
-    subst (λ (x : Trees × List ℕ). FoundAll signature depth (sort ∷ sorts) bytes x.0 x.1) pair (record {
+    by_some (λ (x : Trees × List ℕ). FoundAll signature depth (sort ∷ sorts) bytes x.0 x.1) _ (args, rest) e (record {
       is_ground = (one.2.value.ground, rest_found.is_ground);
       typed = (one.2.value.typed, rest_found.typed);
-      low = let a = one.2.low in let b = rest_found.low in omega arith;
+      low = omega (arith, one.2.low, rest_found.low);
       text = one.1 ∙ ap (λ text. codes " " ++ text) (one.2.text ∙ ap (λ text. term_text signature first.0 ++ text) rest_found.text ∙ sym (append_assoc (term_text signature first.0) (args_text signature others.0) others.1));
     })))
 
@@ -96,22 +89,12 @@ unfolding inside_at
 inside_found signature depth value sound sorts bytes args rest e =
     by_bind (cond (eqb (length sorts) 0) None (arguments_at value sorts bytes)) _ (args, rest) e (λ inner inner-is e.
     by_bind (literal_at (codes ")") inner.1) _ (args, rest) e (λ behind behind-is e.
-    let read : Trees × List ℕ = (inner.0, behind) in
-    let pair = some_is read (args, rest) e in
-    let parts = some_of (eqb (length sorts) 0) (arguments_at value sorts bytes) inner inner-is in
+    let parts : (eqb (length sorts) 0 ≡ false) × (arguments_at value sorts bytes ≡ Some inner) = grind arith in
     let found = arguments_found signature depth value sound sorts bytes inner.0 inner.1 parts.1 in
-    let ended = literal_found (codes ")") inner.1 behind behind-is in
-    subst (λ (x : Trees × List ℕ). (eqb (length sorts) 0 ≡ false) × FoundAll signature depth sorts bytes x.0 (codes ")" ++ x.1)) pair
-    (parts.0, subst (λ r. FoundAll signature depth sorts bytes inner.0 r) ended found))) where
-      some_of : (b : Bool) (r : Option (Trees × List ℕ)) (x : Trees × List ℕ) → cond b None r ≡ Some x → (b ≡ false) × (r ≡ Some x)
-      some_of true r x e = absurd cc
-      some_of false r x e = (refl, e)
+    by_some (λ (x : Trees × List ℕ). (eqb (length sorts) 0 ≡ false) × FoundAll signature depth sorts bytes x.0 (codes ")" ++ x.1)) _ (args, rest) e
+    (parts.0, rw (literal_found (codes ")") inner.1 behind behind-is) at found)))
 
--- a constructor with its arguments is a value of its type
-typed_by : (cons : List Con) (sort number : ℕ) (args : Trees) (found : Option Con) (con : Con) → found ≡ Some con → con.sort ≡ sort → HaveSorts cons [] con.args args → IsSomeAnd found (λ con. (con.sort ≡ sort) × HaveSorts cons [] con.args args)
-typed_by cons sort number args found con e type typed = grind arith
-
-no_kinds : (kinds : List ℕ) → eqb (length kinds) 0 ≡ true → kinds ≡ []
+pub no_kinds : (kinds : List ℕ) → eqb (length kinds) 0 ≡ true → kinds ≡ []
 no_kinds [] e = refl
 no_kinds (kind ∷ kinds) e = let is = eqb-true (length (kind ∷ kinds)) 0 e in absurd (omega arith)
 
@@ -119,12 +102,11 @@ bare_found : (signature : Signature) (depth sort : ℕ) (bytes : List ℕ) (t : 
 unfolding bare_at
 bare_found signature depth sort bytes t rest e =
     by_bind (con_at signature.cons sort bytes) _ (t, rest) e (λ con con-is e.
-    let read : Tree × List ℕ = (node con.0.0 none, con.1) in
-    let parts = guard_some (eqb (length con.0.1) 0) read (t, rest) e in
+    let parts = guard_some (eqb (length con.0.1) 0) (node con.0.0 none, con.1) (t, rest) e in
     let found = con_found signature.cons sort bytes con.0.0 con.0.1 con.1 con-is in
     let bare : found.con.args ≡ [] = found.args ∙ no_kinds con.0.1 parts.0 in
     subst (λ (x : Tree × List ℕ). Found signature (suc depth) sort bytes x.0 x.1) parts.1 (record {
-      value = record { ground = tt; typed = typed_by signature.cons sort con.0.0 none (slice_get signature.cons con.0.0) found.con found.numbered found.of_type (subst (λ kinds. HaveSorts signature.cons [] kinds none) (sym bare) tt) };
+      value = record { ground = tt; typed = some_and _ found.con (λ con. (con.sort ≡ sort) × HaveSorts signature.cons [] con.args none) found.numbered (found.of_type, rw bare tt) };
       low = omega arith;
       text = found.text ∙ ap (λ name. name ++ con.1) (sym (append-nil found.con.name) ∙ ap (λ c. con_name c ++ []) (sym found.numbered));
     }))
@@ -141,14 +123,11 @@ unfolding enclosed_at
 enclosed_found signature depth value sound sort bytes t rest e =
     by_bind (con_at signature.cons sort bytes) _ (t, rest) e (λ con con-is e.
     by_bind (inside_at value con.0.1 con.1) _ (t, rest) e (λ args args-is e.
-    let read : Tree × List ℕ = (node con.0.0 args.0, args.1) in
-    let pair = some_is read (t, rest) e in
     let head = con_found signature.cons sort bytes con.0.0 con.0.1 con.1 con-is in
     let found = inside_found signature depth value sound con.0.1 con.1 args.0 args.1 args-is in
-    let typed : HaveSorts signature.cons [] head.con.args args.0 = subst (λ kinds. HaveSorts signature.cons [] kinds args.0) (sym head.args) found.1.typed in
-    subst (λ (x : Tree × List ℕ). Found signature (suc depth) sort (codes "(" ++ bytes) x.0 x.1) pair (record {
-      value = record { ground = found.1.is_ground; typed = typed_by signature.cons sort con.0.0 args.0 (slice_get signature.cons con.0.0) head.con head.numbered head.of_type typed };
-      low = let a = found.1.low in omega arith;
+    by_some (λ (x : Tree × List ℕ). Found signature (suc depth) sort (codes "(" ++ bytes) x.0 x.1) _ (t, rest) e (record {
+      value = record { ground = found.1.is_ground; typed = some_and _ head.con (λ con. (con.sort ≡ sort) × HaveSorts signature.cons [] con.args args.0) head.numbered (head.of_type, rw head.args found.1.typed) };
+      low = omega (arith, found.1.low);
       text = enclosed_text signature con.0.0 head.con con.0.1 args.0 bytes con.1 args.1 head.numbered found.0 found.1.typed head.text found.1.text;
     })))
 
@@ -171,45 +150,35 @@ fails_first stop r f failed = grind arith
 
 pub value_zero : (cons : List Con) (depth sort : ℕ) (bytes : List ℕ) → depth ≡ 0 → value_at cons depth sort bytes ≡ None
 unfolding value_at
-value_zero cons zero sort bytes e = refl
-value_zero cons (suc depth) sort bytes e = absurd (omega arith)
+value_zero cons depth sort bytes e = rw e refl
 
 pub value_more : (cons : List Con) (depth less sort : ℕ) (bytes : List ℕ) → depth ≡ suc less → value_at cons depth sort bytes ≡ value_by (value_at cons less) cons sort (literal_at (codes "(") bytes) bytes
 unfolding value_at
 value_more cons depth less sort bytes e = ap (λ d. value_at cons d sort bytes) e
 
-from_end : {X : Type 0} (items : List X) (i : ℕ) → i ≡ length items → drop i items ≡ []
-from_end (x ∷ items) (suc i) e = from_end items i (omega arith)
-from_end items i e = grind arith
-
 pub arguments_end : (value : ℕ → Reader Tree) (kinds : List ℕ) (i : ℕ) (bytes : List ℕ) → i ≡ length kinds → arguments_at value (drop i kinds) bytes ≡ Some (none, bytes)
 unfolding arguments_at
-arguments_end value kinds i bytes e = rw (from_end kinds i e) refl
+arguments_end value kinds i bytes e = rw (drop_all i kinds (omega arith)) refl
 
 -- the arguments from one place on
 pub arguments_next : (value : ℕ → Reader Tree) (kinds : List ℕ) (i kind : ℕ) (bytes : List ℕ) → slice_get kinds i ≡ Some kind
     → arguments_at value (drop i kinds) bytes ≡ (argument_at (value kind) bytes >>= λ first. (arguments_at value (drop (i + 1) kinds) first.1 >>= λ others. Some (more first.0 others.0, others.1)))
 unfolding arguments_at
-arguments_next value kinds i kind bytes e =
-    let on : i + 1 ≡ suc i = omega arith in
-    rw (on, from_place kinds i kind e) refl
+arguments_next value kinds i kind bytes e = rw (from_place kinds i kind e) refl
 
 -- what the variables from one place on are given
 pub givens_end : (value : ℕ → Reader Tree) (names : List (List ℕ)) (kinds : List ℕ) (i : ℕ) (values : List Tree) (bytes : List ℕ) → i ≡ length names → givens_at value (drop i names) (drop i kinds) values bytes ≡ Some (values, bytes)
 unfolding givens_at
-givens_end value names kinds i values bytes e = rw (from_end names i e) refl
+givens_end value names kinds i values bytes e = rw (drop_all i names (omega arith)) refl
 
 pub givens_next : (value : ℕ → Reader Tree) (names : List (List ℕ)) (kinds : List ℕ) (i : ℕ) (name : List ℕ) (kind : ℕ) (values : List Tree) (bytes : List ℕ) → slice_get names i ≡ Some name → slice_get kinds i ≡ Some kind
     → givens_at value (drop i names) (drop i kinds) values bytes ≡ (given_at (value kind) name bytes >>= λ first. givens_at value (drop (i + 1) names) (drop (i + 1) kinds) (values ++ first.0 ∷ []) first.1)
 unfolding givens_at
-givens_next value names kinds i name kind values bytes e f =
-    let on : i + 1 ≡ suc i = omega arith in
-    rw (on, from_place names i name e, from_place kinds i kind f) refl
+givens_next value names kinds i name kind values bytes e f = rw (from_place names i name e, from_place kinds i kind f) refl
 
 pub proof_zero : (program : Parts) (value : ℕ → Reader Tree) (height : ℕ) (bytes : List ℕ) → height ≡ 0 → proof_at program value height bytes ≡ None
 unfolding proof_at
-proof_zero program value zero bytes e = refl
-proof_zero program value (suc height) bytes e = absurd (omega arith)
+proof_zero program value height bytes e = rw e refl
 
 pub proof_more : (program : Parts) (value : ℕ → Reader Tree) (height less : ℕ) (bytes : List ℕ) → height ≡ suc less → proof_at program value height bytes ≡ node_at program value (proof_at program value less) bytes
 unfolding proof_at
@@ -217,8 +186,7 @@ proof_more program value height less bytes e = ap (λ h. proof_at program value 
 
 pub proofs_zero : (proof : Reader ProofTree) (goals : ℕ) (bytes : List ℕ) → goals ≡ 0 → proofs_at proof goals bytes ≡ Some (no_goal, bytes)
 unfolding proofs_at
-proofs_zero proof zero bytes e = refl
-proofs_zero proof (suc goals) bytes e = absurd (omega arith)
+proofs_zero proof goals bytes e = rw e refl
 
 pub proofs_more : (proof : Reader ProofTree) (goals less : ℕ) (bytes : List ℕ) → goals ≡ suc less
     → proofs_at proof goals bytes ≡ (literal_at (codes " ") bytes >>= λ space. (proof space >>= λ first. (proofs_at proof less first.1 >>= λ others. Some (goal_by first.0 others.0, others.1))))
@@ -294,23 +262,18 @@ mutual
       → value_at signature.cons depth sort (term_text signature t ++ rest) ≡ Some (t, rest)
   value_again signature names (variable v) depth sort rest g typed low apart = absurd g
   value_again signature names (node number args) depth sort rest g typed low apart =
-      let more_levels : depth ≡ suc (depth - 1) = omega arith in
       let of = con_of signature.cons sort number args (slice_get signature.cons number) refl typed in
-      let inner : argument_depth args ≤ depth - 1 = omega arith in
-      value_more signature.cons depth (depth - 1) sort (term_text signature (node number args) ++ rest) more_levels
-      ∙ node_again signature (depth - 1) sort number args rest names of (λ behind behind_apart. arguments_again signature names args (depth - 1) of.con.args behind g of.typed inner behind_apart) apart
+      value_more signature.cons depth (depth - 1) sort (term_text signature (node number args) ++ rest) (omega arith)
+      ∙ node_again signature (depth - 1) sort number args rest names of (λ behind behind_apart. arguments_again signature names args (depth - 1) of.con.args behind g of.typed (omega arith) behind_apart) apart
 
   pub arguments_again : (signature : Signature) → AreNames (con_names signature.cons) → (args : Trees) (depth : ℕ) (sorts rest : List ℕ) → AreGround args → HaveSorts signature.cons [] sorts args → argument_depth args ≤ depth → IsApart rest
       → arguments_at (value_at signature.cons depth) sorts (args_text signature args ++ rest) ≡ Some (args, rest)
   arguments_again signature names none depth [] rest g typed low apart = refl
-  arguments_again signature names none depth (sort ∷ sorts) rest g typed low apart = absurd typed
-  arguments_again signature names (more t others) depth [] rest g typed low apart = absurd typed
   arguments_again signature names (more t others) depth (sort ∷ sorts) rest g typed low apart =
-      let first : term_depth t ≤ depth = omega arith in
-      let then_others : argument_depth others ≤ depth = omega arith in
       let text = term_text signature t in
       let behind = args_text signature others ++ rest in
-      let one = value_again signature names t depth sort behind g.0 typed.0 first (args_apart signature others rest apart) in
-      let all = arguments_again signature names others depth sorts rest g.1 typed.1 then_others apart in
+      let one = value_again signature names t depth sort behind g.0 typed.0 (omega arith) (args_apart signature others rest apart) in
+      let all = arguments_again signature names others depth sorts rest g.1 typed.1 (omega arith) apart in
       ap (λ bytes. arguments_at (value_at signature.cons depth) (sort ∷ sorts) (codes " " ++ bytes)) (append_assoc text (args_text signature others) rest)
       ∙ rw (argument_again signature depth sort t text behind one, all) refl
+  arguments_again signature names args depth sorts rest g typed low apart = absurd typed

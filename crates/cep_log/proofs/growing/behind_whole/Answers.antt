@@ -1,5 +1,5 @@
 use Rattle.std.proofs.lemmas.Result.{IfOk-weaker}
-use Rattle.cep_log.proofs.LineKindLemmas.{told_none, nothing_behind_start, nothing_behind_steps, none_weaker}
+use Rattle.cep_log.proofs.LineKindLemmas.{nothing_behind_start, nothing_behind_steps, none_weaker}
 use Rattle.cep_log.proofs.growing.behind_whole.Goals as goal
 
 pub returns-then-not-is_empty-clause-none : goal.returns-then-not-is_empty-clause-none
@@ -11,5 +11,5 @@ returns-then-not-is_empty-clause-none c =
 pub returns-in-None-clause-none : goal.returns-in-None-clause-none
 returns-in-None-clause-none c =
     IfOk-weaker c.begun-in-None.result _ _
-    (λ read none. none_weaker read _ _ (nothing_behind_start c.args.vocabulary.now c.args.number c.args.line.now c.args.log (told_none c.in_ok-have.field-0 _ c.in-None.is c.in_ok-have.ensures.none)) none)
+    (λ read none. none_weaker read _ _ (nothing_behind_start c.args.vocabulary.now c.args.number c.args.line.now c.args.log (rw c.in-None.is at c.in_ok-have.ensures.none)) none)
     c.begun-in-None.ensures.none

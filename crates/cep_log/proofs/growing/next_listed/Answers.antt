@@ -1,6 +1,6 @@
 use Rattle.cep_rule.specs.Program.{IsProgram}
 use Rattle.cep_log.specs.Listed.{have_of}
-use Rattle.cep_log.proofs.LineKindLemmas.{OneValue, told_none, listed_none, told_some}
+use Rattle.cep_log.proofs.LineKindLemmas.{OneValue, listed_none}
 use Rattle.cep_log.proofs.growing.next_listed.Goals as goal
 
 pub returns-else-is_behind-clause-none : goal.returns-else-is_behind-clause-none
@@ -13,8 +13,8 @@ returns-else-is_behind-clause-none c = λ entry said behind.
       derivations = λ x y p q e. c.one_value.ensures.derivations program x y is p q e;
       stages = is.named.stages.differ;
     } in
-    listed_none program laws c.args.line.now c.args.haves.now (have_of c.in-Some.have) entry (told_some c.in_ok-have.field-0 c.in-Some.have _ c.in-Some.is c.in_ok-have.ensures.some)
+    listed_none program laws c.args.line.now c.args.haves.now (have_of c.in-Some.have) entry (rw c.in-Some.is at c.in_ok-have.ensures.some)
     (λ is_behind. let t = c.is_behind.ensures.1 is_behind in let f = c.if-is_behind.false in absurd cc) said behind
 
 pub returns-in-None-clause-none : goal.returns-in-None-clause-none
-returns-in-None-clause-none c = λ entry said behind. told_none c.in_ok-have.field-0 _ c.in-None.is c.in_ok-have.ensures.none entry said
+returns-in-None-clause-none c = λ entry said behind. (rw c.in-None.is at c.in_ok-have.ensures.none) entry said

@@ -11,14 +11,10 @@ laws_of c = record {
   small_proofs = c.values_are_small.ensures.derivations;
 }
 
-pub returns-clause-read : goal.returns-clause-read
-returns-clause-read c = λ program log lines is legal tells short. log_read (laws_of c) program is log lines legal tells short
-
-pub returns-clause-few : goal.returns-clause-few
-returns-clause-few c = few_lines
-
-pub returns-clause-long : goal.returns-clause-long
-returns-clause-long c = log_long
-
-pub returns-clause-text : goal.returns-clause-text
-returns-clause-text c = same_text
+pub returns : goal.returns
+returns c = record {
+  read = λ program log lines is legal tells short. log_read (laws_of c) program is log lines legal tells short;
+  few = few_lines;
+  long = log_long;
+  text = same_text;
+}

@@ -12,14 +12,9 @@ laws_of c program is = record {
   stages = is.named.stages.differ;
 }
 
-pub returns-clause-once : goal.returns-clause-once
-returns-clause-once c = λ program bytes one other is a b.
-    one_log program (laws_of c program is) bytes one other a b
-
-pub returns-clause-apart : goal.returns-clause-apart
-returns-clause-apart c = λ program bytes log fault is a b.
-    log_or_misfit program (laws_of c program is) bytes log fault a b
-
-pub returns-clause-misfit : goal.returns-clause-misfit
-returns-clause-misfit c = λ program bytes one other is a b.
-    one_misfit program (laws_of c program is) bytes one other a b
+pub returns : goal.returns
+returns c = record {
+  once = λ program bytes one other is a b. one_log program (laws_of c program is) bytes one other a b;
+  apart = λ program bytes log fault is a b. log_or_misfit program (laws_of c program is) bytes log fault a b;
+  misfit = λ program bytes one other is a b. one_misfit program (laws_of c program is) bytes one other a b;
+}

@@ -1,4 +1,4 @@
-use Rattle.std.proofs.Common.{◌≡◌, true, false, List, ℕ, sym, ap, subst, ◌∙◌, arith, bytes_eq, refl}
+use Rattle.std.proofs.Common.{◌≡◌, false, List, ℕ, sym, ap, subst, ◌∙◌, arith, bytes_eq}
 use Rattle.std.specs.Prelude.{decimal}
 use Rattle.std.specs.Str.{IsAscii}
 use Rattle.std.proofs.lemmas.Fmt.{IsAscii-decimal, parse-decimal}
@@ -7,7 +7,7 @@ use Rattle.std.proofs.lemmas.Slice.Eq.{bytes_eq-Decides}
 use Rattle.cep_log.proofs.words.plain.Goals as goal
 
 not_same : (a b : List ℕ) → bytes_eq a b ≡ false → a ≡ b → ⊥
-not_same a b t e = let s : bytes_eq a a ≡ true = (bytes_eq-Decides a a).1 refl in let same : bytes_eq a b ≡ true = subst (λ x. bytes_eq a x ≡ true) e s in absurd cc
+not_same a b t e = grind (arith, bytes_eq-Decides)
 
 pub returns-in_default-clause-none : goal.returns-in_default-clause-none
 returns-in_default-clause-none c = λ n short e.

@@ -12,8 +12,5 @@ pub put_values-requires-clause-declared : goal.put_values-requires-clause-declar
 put_values-requires-clause-declared c =
     rw c.parts-parts.ensures.parts (all_declared _ _ c.args.values.now (node_values c.args.program.now c.args.number c.args.values.now (clause_of c.get-clause.result.now) c.requires (rw c.parts-parts.ensures.parts at c.get-clause.ensures)))
 
-pub returns-clause-ok : goal.returns-clause-ok
-returns-clause-ok c = grind (arith, common_steps)
-
-pub returns-clause-err : goal.returns-clause-err
-returns-clause-err c = grind (arith, common_steps)
+pub returns : goal.returns
+returns c = grind (arith, common_steps)

@@ -5,8 +5,5 @@ use Rattle.cep_text.proofs.offers.put_given.Goals as goal
 pub returns-in_err-append-3-clause-err : goal.returns-in_err-append-3-clause-err
 returns-in_err-append-3-clause-err c = grind (arith, common_steps)
 
-pub returns-clause-ok : goal.returns-clause-ok
-returns-clause-ok c = grind (arith, common_steps)
-
-pub returns-clause-err : goal.returns-clause-err
-returns-clause-err c = grind (arith, common_steps)
+pub returns : goal.returns
+returns c = grind (arith, common_steps)

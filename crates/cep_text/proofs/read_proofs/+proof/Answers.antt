@@ -1,6 +1,6 @@
 use Rattle.cep_text.specs.Reading.{node_at, proof_at, small_at}
 use Rattle.std.proofs.lemmas.Grind.{common_steps}
-use Rattle.std.proofs.Common.{◌≡◌, ◌-◌, suc, refl, arith}
+use Rattle.std.proofs.Common.{◌-◌, refl, arith}
 use Rattle.std.proofs.lemmas.Result.{err_from_is_err_and}
 use Rattle.cep_text.proofs.ValuesFound.{fails_first, proof_zero, proof_more, proofs_zero, proofs_more}
 use Rattle.cep_text.proofs.read_proofs.+proof.Goals as goal
@@ -10,8 +10,7 @@ proof-returns-then-height-eq0-clause-read t c = proof_zero _ _ _ _ c.if-height-e
 
 pub proof-returns-clause-read : goal.proof-returns-clause-read
 proof-returns-clause-read t c =
-    let more : c.args.height ≡ suc (c.args.height - 1) = omega arith in
-    rw (proof_more c.args.vocabulary.now (small_at c.args.vocabulary.now.signature.cons) c.args.height (c.args.height - 1) c.args.bytes.now more) c.node.ensures.read
+    rw (proof_more c.args.vocabulary.now (small_at c.args.vocabulary.now.signature.cons) c.args.height (c.args.height - 1) c.args.bytes.now (omega arith)) c.node.ensures.read
 
 pub proofs-returns-then-goals-eq0-clause-read : goal.proofs-returns-then-goals-eq0-clause-read
 proofs-returns-then-goals-eq0-clause-read t c = proofs_zero _ _ _ c.if-goals-eq0.true
@@ -19,28 +18,24 @@ proofs-returns-then-goals-eq0-clause-read t c = proofs_zero _ _ _ c.if-goals-eq0
 pub proofs-returns-in_err-rest-clause-read : goal.proofs-returns-in_err-rest-clause-read
 proofs-returns-in_err-rest-clause-read t c =
     let p = err_from_is_err_and c.from_residual.result c.from_residual.ensures.1 in
-    let more : c.args.goals ≡ suc (c.args.goals - 1) = omega arith in
-    rw (p.1, p.2, proofs_more (proof_at c.args.vocabulary.now (small_at c.args.vocabulary.now.signature.cons) c.args.height) c.args.goals (c.args.goals - 1) c.args.bytes.now more)
+    rw (p.1, p.2, proofs_more (proof_at c.args.vocabulary.now (small_at c.args.vocabulary.now.signature.cons) c.args.height) c.args.goals (c.args.goals - 1) c.args.bytes.now (omega arith))
     (fails_first c.in_err-rest.field-0.0 _ _ c.in_err-rest.ensures.read)
 
 pub proofs-returns-in_err-first-clause-read : goal.proofs-returns-in_err-first-clause-read
 proofs-returns-in_err-first-clause-read t c =
     let p = err_from_is_err_and c.from_residual-in_err-first.result c.from_residual-in_err-first.ensures.1 in
-    let more : c.args.goals ≡ suc (c.args.goals - 1) = omega arith in
-    rw (p.1, p.2, proofs_more (proof_at c.args.vocabulary.now (small_at c.args.vocabulary.now.signature.cons) c.args.height) c.args.goals (c.args.goals - 1) c.args.bytes.now more, c.in_ok-rest.ensures.read)
+    rw (p.1, p.2, proofs_more (proof_at c.args.vocabulary.now (small_at c.args.vocabulary.now.signature.cons) c.args.height) c.args.goals (c.args.goals - 1) c.args.bytes.now (omega arith), c.in_ok-rest.ensures.read)
     (fails_first c.in_err-first.field-0.0 _ _ c.in_err-first.ensures.read)
 
 pub proofs-returns-in_err-others-clause-read : goal.proofs-returns-in_err-others-clause-read
 proofs-returns-in_err-others-clause-read t c =
     let p = err_from_is_err_and c.from_residual-in_err-others.result c.from_residual-in_err-others.ensures.1 in
-    let more : c.args.goals ≡ suc (c.args.goals - 1) = omega arith in
-    rw (p.1, p.2, proofs_more (proof_at c.args.vocabulary.now (small_at c.args.vocabulary.now.signature.cons) c.args.height) c.args.goals (c.args.goals - 1) c.args.bytes.now more, c.in_ok-rest.ensures.read, c.in_ok-first.ensures.read)
+    rw (p.1, p.2, proofs_more (proof_at c.args.vocabulary.now (small_at c.args.vocabulary.now.signature.cons) c.args.height) c.args.goals (c.args.goals - 1) c.args.bytes.now (omega arith), c.in_ok-rest.ensures.read, c.in_ok-first.ensures.read)
     (fails_first c.in_err-others.field-0.0 _ _ c.in_err-others.ensures.read)
 
 pub proofs-returns-clause-read : goal.proofs-returns-clause-read
 proofs-returns-clause-read t c =
-    let more : c.args.goals ≡ suc (c.args.goals - 1) = omega arith in
-    rw (proofs_more (proof_at c.args.vocabulary.now (small_at c.args.vocabulary.now.signature.cons) c.args.height) c.args.goals (c.args.goals - 1) c.args.bytes.now more, c.in_ok-rest.ensures.read, c.in_ok-first.ensures.read, c.in_ok-others.ensures.read, c.in_ok-new.ensures.ok) refl
+    rw (proofs_more (proof_at c.args.vocabulary.now (small_at c.args.vocabulary.now.signature.cons) c.args.height) c.args.goals (c.args.goals - 1) c.args.bytes.now (omega arith), c.in_ok-rest.ensures.read, c.in_ok-first.ensures.read, c.in_ok-others.ensures.read, c.in_ok-new.ensures.ok) refl
 
 pub node-returns-clause-read : goal.node-returns-clause-read
 unfolding node_at

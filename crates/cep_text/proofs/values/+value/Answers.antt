@@ -1,6 +1,6 @@
 use Rattle.cep_text.specs.Reading.{argument_at, enclosed_at, inside_at, value_at}
 use Rattle.std.proofs.lemmas.Grind.{common_steps}
-use Rattle.std.proofs.Common.{◌≡◌, ◌-◌, suc, refl, arith}
+use Rattle.std.proofs.Common.{◌-◌, refl, arith}
 use Rattle.std.proofs.lemmas.Result.{err_from_is_err_and}
 use Rattle.cep_text.proofs.ValuesFound.{fails_first, value_zero, value_more, arguments_end, arguments_next}
 use Rattle.cep_text.proofs.values.+value.Goals as goal
@@ -10,13 +10,11 @@ value-returns-then-depth-eq0-clause-read t c = value_zero _ _ _ _ c.if-depth-eq0
 
 pub value-returns-in-Some-clause-read : goal.value-returns-in-Some-clause-read
 value-returns-in-Some-clause-read t c =
-    let more : c.args.depth ≡ suc (c.args.depth - 1) = omega arith in
-    rw (value_more c.args.vocabulary.now.signature.cons c.args.depth (c.args.depth - 1) c.args.sort c.args.bytes.now more, c.in-Some.ensures.read) c.enclosed.ensures.read
+    rw (value_more c.args.vocabulary.now.signature.cons c.args.depth (c.args.depth - 1) c.args.sort c.args.bytes.now (omega arith), c.in-Some.ensures.read) c.enclosed.ensures.read
 
 pub value-returns-in-None-clause-read : goal.value-returns-in-None-clause-read
 value-returns-in-None-clause-read t c =
-    let more : c.args.depth ≡ suc (c.args.depth - 1) = omega arith in
-    rw (value_more c.args.vocabulary.now.signature.cons c.args.depth (c.args.depth - 1) c.args.sort c.args.bytes.now more, c.in-None.ensures.read) c.bare.ensures.read
+    rw (value_more c.args.vocabulary.now.signature.cons c.args.depth (c.args.depth - 1) c.args.sort c.args.bytes.now (omega arith), c.in-None.ensures.read) c.bare.ensures.read
 
 pub arguments-returns-then-from-len-clause-read : goal.arguments-returns-then-from-len-clause-read
 arguments-returns-then-from-len-clause-read t c = arguments_end _ c.args.kinds.now c.args.from c.args.bytes.now (omega arith)
