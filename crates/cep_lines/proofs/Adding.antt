@@ -1,7 +1,7 @@
 -- A text that is added piece by piece, and lines one after another.
-use Rattle.std.proofs.Common.{◌≡◌, ℕ, List, [], ◌++◌, append_assoc, sym, ap, ◌∙◌, suc, ◌+◌, ◌≤◌, ◌∷◌, length, drop, refl, arith}
+use Rattle.std.proofs.Common.{◌≡◌, ℕ, List, [], ◌++◌, append_assoc, sym, ap, ◌∙◌, ◌+◌, ◌≤◌, ◌∷◌, length, drop, refl, arith}
 use Rattle.std.proofs.lemmas.List.{append-nil, drop_all}
-use Rattle.std.specs.Prelude.{slice_get, Some, None, codes, decimal}
+use Rattle.std.specs.Prelude.{slice_get, Some, codes, decimal}
 use Rattle.std.specs.List.{flat_map}
 use Rattle.cep_text.specs.Writing.{IsBegun}
 use Rattle.std.proofs.lemmas.List.Concat.{flat_map-cons}
@@ -41,13 +41,20 @@ adding_breaks start whole now left piece later new so_far is begun = grind (arit
 
 -- Lines that are written one after another.
 
--- The lines of the items that are left begin with that of the first.
-pub lines_left : {A : Type 0} (f : A → List ℕ) (xs : List A) (k : ℕ) (x : A) → slice_get xs k ≡ Some x → flat_map f (drop k xs) ≡ f x ++ flat_map f (drop (k + 1) xs)
-lines_left f xs k x at = ap (flat_map f) (drop_at xs k x at) ∙ flat_map-cons f x (drop (k + 1) xs)
+-- those of the items of a list
+module _ {A : Type 0} (f : A → List ℕ) (xs : List A) (start : List ℕ) where
+  -- the lines of the items that are left begin with that of the first
+  lines_left : (k : ℕ) (x : A) → slice_get xs k ≡ Some x → flat_map f (drop k xs) ≡ f x ++ flat_map f (drop (k + 1) xs)
+  lines_left k x at = ap (flat_map f) (drop_at xs k x at) ∙ flat_map-cons f x (drop (k + 1) xs)
 
--- None is left.
-pub no_lines_left : {A : Type 0} (f : A → List ℕ) (xs : List A) (k : ℕ) → length xs ≤ k → flat_map f (drop k xs) ≡ []
-no_lines_left f xs k h = ap (flat_map f) (drop_all k xs h)
+  pub line_added : (k : ℕ) (x : A) (now next : List ℕ) → IsAdding start (flat_map f xs) now (flat_map f (drop k xs)) → slice_get xs k ≡ Some x → next ≡ now ++ f x → IsAdding start (flat_map f xs) next (flat_map f (drop (k + 1) xs))
+  line_added k x now next so_far at more = adding_next start (flat_map f xs) now next _ (f x) _ so_far (lines_left k x at) more
+
+  pub line_breaks : (k : ℕ) (x : A) (now new : List ℕ) → IsAdding start (flat_map f xs) now (flat_map f (drop k xs)) → slice_get xs k ≡ Some x → IsBegun now (f x) new → IsBegun start (flat_map f xs) new
+  line_breaks k x now new so_far at begun = adding_breaks start (flat_map f xs) now _ (f x) _ new so_far (lines_left k x at) begun
+
+  pub lines_done : (k : ℕ) (now : List ℕ) → IsAdding start (flat_map f xs) now (flat_map f (drop k xs)) → length xs ≤ k → now ≡ start ++ flat_map f xs
+  lines_done k now so_far h = adding_done start (flat_map f xs) now _ so_far (ap (flat_map f) (drop_all k xs h))
 
 -- The pieces of the header.
 module _ (program : Parts) (height : ℕ) where
@@ -76,9 +83,6 @@ module _ (program : Parts) (height : ℕ) where
 -- what is left of the offers: those from a place on
 abbrev pub offers_from : Parts → List Offer → ℕ → List ℕ
 offers_from program offers k = offer_lines program (k + 1) (drop k offers)
-
-pub whole_offers : (program : Parts) (offers : List Offer) → offers_from program offers 0 ≡ offer_lines program 1 offers
-whole_offers program offers = refl
 
 pub offers_left : (program : Parts) (offers : List Offer) (k : ℕ) (offer : Offer) → slice_get offers k ≡ Some offer → offers_from program offers k ≡ offer_line program (k + 1) offer ++ offers_from program offers (k + 1)
 unfolding offer_lines

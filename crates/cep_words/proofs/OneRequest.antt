@@ -1,10 +1,10 @@
 -- Words give options one after another, and ask for one thing at most.
-use Rattle.std.proofs.Common.{◌≡◌, ◌≢◌, ℕ, ◌+◌, ◌*◌, ◌<◌, ◌≤◌, cond, ◌==◌, Option, None, Some, List, [], ◌∷◌, ◌++◌, ◌-◌, length, map, take, drop, get_or, refl, sym, ap, subst, ◌∙◌, arith, append_assoc, Contains, ⊎_elim, ◌^◌}
+use Rattle.std.proofs.Common.{◌≡◌, ◌≢◌, ℕ, ◌+◌, ◌*◌, ◌<◌, ◌≤◌, cond, ◌==◌, Option, None, Some, List, [], ◌∷◌, ◌++◌, ◌-◌, length, map, take, drop, get_or, sym, ap, subst, ◌∙◌, arith, append_assoc, Contains, ⊎_elim}
 use Rattle.std.specs.Prelude.{IsSome, MatchOption, codes, decimal}
-use Rattle.std.specs.List.{AllByRecursion}
+use Rattle.std.specs.List.{AllByRecursion, sum_by}
 use Rattle.std.specs.List.Sorted.{IsPermutation}
 use Rattle.std.proofs.Math.Seq.{take-length}
-use Rattle.std.proofs.lemmas.List.Recursion.{is_sum_by}
+use Rattle.std.proofs.lemmas.List.Sums.{sum_by-append, sum_by-cons}
 use Rattle.std.proofs.lemmas.List.{map-append, take_more, take-append-drop, append_cancel_left}
 use Rattle.std.proofs.lemmas.Fmt.{decimal_injective}
 use Rattle.std.proofs.lemmas.List.Sorted.{IsPermutation-refl, IsPermutation-sym, IsPermutation-trans, IsPermutation-cons, IsPermutation-middle, IsPermutation-to_front, IsPermutation-map, IsPermutation-append_right, Contains-permutation, sum_by-IsPermutation}
@@ -32,18 +32,7 @@ begins first [] = 0
 begins first (byte ∷ rest) = cond (byte == first) 1 0
 
 abbrev times : ℕ → List (List ℕ) → ℕ
-times first [] = 0
-times first (word ∷ words) = begins first word + times first words
-
-times-permuted : (first : ℕ) (words others : List (List ℕ)) → IsPermutation words others → times first others ≡ times first words
-times-permuted first words others same = let is = is_sum_by (times first) (begins first) refl (λ word words. refl) in is others ∙ sum_by-IsPermutation (begins first) words others same ∙ sym (is words)
-
-times-both : (first : ℕ) (words others : List (List ℕ)) → times first (words ++ others) ≡ times first words + times first others
-times-both first [] others = omega arith
-times-both first (word ∷ words) others = let later = times-both first words others in omega (arith, later)
-
-times-asked : (first : ℕ) (here later : List RunOption) → times first (map option_text (here ++ later)) ≡ times first (map option_text here) + times first (map option_text later)
-times-asked first here later = ap (times first) (map-append option_text here later) ∙ times-both first (map option_text here) (map option_text later)
+times first words = sum_by (begins first) words
 
 abbrev present : Option ℕ → ℕ
 present None = 0
@@ -55,30 +44,22 @@ times-kind first count kind o each = grind arith
 
 -- those of all kinds
 times-asked_all : (first : ℕ) (options : Options) → times first (map option_text (all_asked options)) ≡ cond (115 == first) 1 0 * present options.seed + (cond (104 == first) 1 0 * present options.height + (cond (116 == first) 1 0 * present options.turns + cond (112 == first) 1 0 * present options.players))
-times-asked_all first options = grind (arith, times-asked, times-kind, first)
+times-asked_all first options = grind (arith, map-append, sum_by-append, times-kind, first)
 
 -- as many words begin as an option's does as ask what is of its kind
 asked_once : (option : RunOption) (options : Options) → times (initial option) (map option_text (all_asked options)) ≡ present (of_its_kind options option)
 unfolding initial
-asked_once (Seed n) options = omega (arith, times-asked_all 115 options)
-asked_once (Height n) options = omega (arith, times-asked_all 104 options)
-asked_once (Turns n) options = omega (arith, times-asked_all 116 options)
-asked_once (Players n) options = omega (arith, times-asked_all 112 options)
+asked_once option options = grind (arith, times-asked_all (initial option) options)
 
 begins_so : (option : RunOption) → begins (initial option) (option_text option) ≡ 1
 unfolding initial
-begins_so (Seed n) = refl
-begins_so (Height n) = refl
-begins_so (Turns n) = refl
-begins_so (Players n) = refl
+begins_so option = grind arith
 
 at_most_one : (o : Option ℕ) → present o ≤ 1
-at_most_one None = omega arith
-at_most_one (Some n) = omega arith
+at_most_one o = grind arith
 
 some_present : (o : Option ℕ) → IsSome o → present o ≡ 1
-some_present None some = cc
-some_present (Some n) some = refl
+some_present o some = grind arith
 
 -- Words that were read, and one more
 
@@ -109,9 +90,6 @@ asks_one_more (Players n) seed height turns players after (none, is) =
     (behind (asked_if Height height) (parts None None turns (Some n)) (Players n) (parts None None turns None)
     (behind (asked_if Turns turns) (parts None None None (Some n)) (Players n) (parts None None None None) (IsPermutation-refl _))))
 
-all_permuted : (xs ys : List RunOption) → IsPermutation xs ys → AllByRecursion IsInBounds ys → AllByRecursion IsInBounds xs
-all_permuted xs ys same all = all_of IsInBounds xs (λ x there. all_at IsInBounds ys x all (Contains-permutation xs ys x same there))
-
 pub one_more_read : (words : List (List ℕ)) (word : List ℕ) (options : Options) (option : RunOption) (after : Options) → AreRead words options → IsInBounds option → word ≡ option_text option → AddsOne options option after → AreRead (words ++ word ∷ []) after
 one_more_read words word options option after read bounds is adds =
     let asks = asks_one_more option options.seed options.height options.turns options.players after adds in
@@ -119,7 +97,7 @@ one_more_read words word options option after read bounds is adds =
     let moved = IsPermutation-trans _ (option_text option ∷ map option_text (all_asked options)) (option_text option ∷ words) texts (IsPermutation-cons (option_text option) (map option_text (all_asked options)) words read.given) in
     let last = IsPermutation-trans _ (option_text option ∷ words) (words ++ option_text option ∷ []) moved (IsPermutation-sym (words ++ option_text option ∷ []) (option_text option ∷ words) (IsPermutation-to_front words (option_text option))) in
     record {
-      within = all_permuted (all_asked after) (option ∷ all_asked options) asks (bounds, read.within);
+      within = all_of IsInBounds (all_asked after) (λ x there. all_at IsInBounds (option ∷ all_asked options) x (bounds, read.within) (Contains-permutation _ _ x asks there));
       given = subst (λ (w : List ℕ). IsPermutation (map option_text (all_asked after)) (words ++ w ∷ [])) (sym is) last;
     }
 
@@ -135,15 +113,15 @@ one_unread words word there unread options give =
 pub one_twice : (words more : List (List ℕ)) (word : List ℕ) (so_far : Options) (option : RunOption) → AreRead words so_far → word ≡ option_text option → IsThere so_far option → (options : Options) → ¬ (Give (words ++ word ∷ more) options)
 one_twice words more word so_far option read is there options give =
     let first = initial option in
-    let whole = times-permuted first (map option_text (all_asked options)) (words ++ word ∷ more) give.1 in
+    let whole = sum_by-IsPermutation (begins first) (map option_text (all_asked options)) (words ++ word ∷ more) give.1 in
     let asked = asked_once option options in
     let once = at_most_one (of_its_kind options option) in
-    let before = times-permuted first (map option_text (all_asked so_far)) words read.given in
+    let before = sum_by-IsPermutation (begins first) (map option_text (all_asked so_far)) words read.given in
     let asked' = asked_once option so_far in
     let some = some_present (of_its_kind so_far option) there in
     let here = ap (begins first) is ∙ begins_so option in
-    let both = times-both first words (word ∷ more) in
-    omega (arith, whole, asked, once, before, asked', some, here, both)
+    let both = sum_by-append (begins first) words (word ∷ more) in
+    omega (arith, whole, asked, once, before, asked', some, here, both, sum_by-cons (begins first) word more)
 
 -- Words at a place among others
 
@@ -167,11 +145,8 @@ none_matches o P Q none holds = subst (λ found. MatchOption found P Q) (sym non
 
 -- a slice that begins with two items
 pub two_items : {X : Type 0} (items : List X) (one other : X) → 2 ≤ length items → one ≡ get_or items 0 one → other ≡ get_or items 1 other → items ≡ one ∷ other ∷ take (length items - 2) (drop 2 items)
-two_items [] one other least e f = absurd (omega arith)
-two_items (a ∷ []) one other least e f = absurd (omega arith)
-two_items (a ∷ b ∷ more) one other least e f =
-    let rest : take (length (a ∷ b ∷ more) - 2) more ≡ more = ap (λ n. take n more) (let h : length (a ∷ b ∷ more) - 2 ≡ length more = omega arith in h) ∙ take-length more in
-    cc
+two_items (a ∷ b ∷ more) one other least e f = grind (arith, take-length more)
+two_items items one other least e f = absurd (omega arith)
 
 -- what is said of none may be said less strongly
 pub none_weaker : {A : Type 0} (o : Option A) (P P' : Type 0) (Q : A → Type 0) → (P → P') → MatchOption o P Q → MatchOption o P' Q
@@ -214,38 +189,9 @@ four_items items one other third last size e f g h = grind arith
 
 -- Words ask for one thing at most.
 
-abbrev head : List ℕ → ℕ
-head [] = 0
-head (byte ∷ bytes) = byte
-
-abbrev first : List (List ℕ) → List ℕ
-first [] = []
-first (word ∷ words) = word
-
-abbrev second : List (List ℕ) → List ℕ
-second [] = []
-second (word ∷ []) = []
-second (word ∷ (next ∷ rest)) = next
-
-abbrev behind_two : List (List ℕ) → List (List ℕ)
-behind_two [] = []
-behind_two (word ∷ []) = []
-behind_two (word ∷ (next ∷ rest)) = rest
-
-abbrev behind_one : List (List ℕ) → List (List ℕ)
-behind_one [] = []
-behind_one (word ∷ words) = words
-
 -- one text is that of one option
-one_number : (prefix : List ℕ) (m n : ℕ) → m < 2 ^ 64 → n < 2 ^ 64 → prefix ++ decimal m ≡ prefix ++ decimal n → m ≡ n
-one_number prefix m n low low' same = decimal_injective m n low low' (append_cancel_left prefix (decimal m) (decimal n) same)
-
 one_text : (one other : RunOption) → IsInBounds one → IsInBounds other → option_text one ≡ option_text other → one ≡ other
-one_text (Seed m) (Seed n) low low' same = ap Seed (one_number (codes "seed=") m n low low' same)
-one_text (Height m) (Height n) low low' same = ap Height (one_number (codes "height=") m n (omega (arith, low.1)) (omega (arith, low'.1)) same)
-one_text (Turns m) (Turns n) low low' same = ap Turns (one_number (codes "turns=") m n (omega (arith, low.1)) (omega (arith, low'.1)) same)
-one_text (Players m) (Players n) low low' same = ap Players (one_number (codes "players=") m n (omega (arith, low.1)) (omega (arith, low'.1)) same)
-one_text one other low low' same = let first = ap head same in absurd (omega (arith, first))
+one_text one other low low' same = grind (arith, decimal_injective, append_cancel_left)
 
 -- what is among those of a kind is one of them
 among : (kind : ℕ → RunOption) (o : Option ℕ) (option : RunOption) → Contains (asked_if kind o) option → (n : ℕ) × (o ≡ Some n) × (kind n ≡ option)
@@ -301,14 +247,14 @@ pub unplayed : (words others : List (List ℕ)) (word name : List ℕ) (given : 
     → (file : List ℕ) (options : Options) → ¬ (AskFor words (Play file options))
 unplayed words others word name given are gives other file options ask =
     let same = sym are ∙ ask.1 in
-    let options_same = given_once others given options gives (subst (λ ws. Give ws options) (sym (ap behind_two same)) ask.2) in
-    other (ap first same ∙ ap (λ (o : Options). play_word o.players) (sym options_same))
+    let options_same = given_once others given options gives (subst (λ ws. Give ws options) (sym (ap (drop 2) same)) ask.2) in
+    other (ap (λ ws. get_or ws 0 []) same ∙ ap (λ (o : Options). play_word o.players) (sym options_same))
 
 -- and for no world if they say how many play
 pub unrun : (words others : List (List ℕ)) (word name : List ℕ) (given : Options) (players : ℕ) → words ≡ word ∷ name ∷ others → Give others given → given.players ≡ Some players
     → (rooms : ℕ) (options : Options) → ¬ (AskFor words (World rooms options))
 unrun words others word name given players are gives some rooms options ask =
-    let options_same = given_once others given options gives (subst (λ ws. Give ws options) (sym (ap behind_two (sym are ∙ ask.2.1))) ask.2.2) in
+    let options_same = given_once others given options gives (subst (λ ws. Give ws options) (sym (ap (drop 2) (sym are ∙ ask.2.1))) ask.2.2) in
     let none = sym some ∙ ap (λ (o : Options). o.players) options_same ∙ ask.1 in
     cc
 
@@ -336,40 +282,25 @@ word_letter task = grind arith
 play_letter : (players : Option ℕ) → fourth (play_word players) ≡ 121
 play_letter players = grind arith
 
-tells_letter : (words : List (List ℕ)) (request : Request) → AskFor words request → fourth (first words) ≡ letter_of request
-tells_letter words request ask = grind (arith, fourth, first, play_letter, word_letter)
+tells_letter : (words : List (List ℕ)) (request : Request) → AskFor words request → fourth (get_or words 0 []) ≡ letter_of request
+tells_letter words request ask = grind (arith, fourth, play_letter, word_letter)
 
 -- a letter and the options after it name one task at most
-task_letters : (task : Task) → (k : ℕ) × (k ≤ 8) × (task_letter task ≡ 2 * k + 99)
-task_letters Check = (0, omega arith, refl)
-task_letters Renew = (1, omega arith, refl)
-task_letters Cause = (8, omega arith, refl)
-task_letters (Again seed) = (3, omega arith, refl)
-task_letters Weigh = (2, omega arith, refl)
-
 one_task : (one other : Task) → task_letter one ≡ task_letter other → AllByRecursion IsInBounds (options_of one) → AllByRecursion IsInBounds (options_of other) → map option_text (options_of one) ≡ map option_text (options_of other) → one ≡ other
-one_task one other same low low' texts = grind (arith, decimal_injective, append_cancel_left, first)
+one_task one other same low low' texts = grind (arith, decimal_injective, append_cancel_left)
 
 pub one_request : (words : List (List ℕ)) (one other : Request) → AskFor words one → AskFor words other → one ≡ other
-one_request words one other ask ask' = by one other ask ask' (sym (tells_letter words one ask) ∙ tells_letter words other ask') where
-  by : (one other : Request) → AskFor words one → AskFor words other → letter_of one ≡ letter_of other → one ≡ other
-  by (Play file options) (Play file' options') ask ask' letters =
-      let same : play_word options.players ∷ file ∷ ask.0 ≡ play_word options'.players ∷ file' ∷ ask'.0 = sym ask.1 ∙ ask'.1 in
-      let files : file ≡ file' = ap second same in
-      λ i. Play (files i) ((given_once ask'.0 options options' (subst (λ ws. Give ws options) (ap behind_two same) ask.2) ask'.2) i)
-  by (Examine task file log) (Examine task' file' log') ask ask' letters =
-      let same : task_word task ∷ file ∷ log ∷ map option_text (options_of task) ≡ task_word task' ∷ file' ∷ log' ∷ map option_text (options_of task') = sym ask.1 ∙ ask'.1 in
-      let files : file ≡ file' = ap second same in
-      λ i. Examine ((one_task task task' letters ask.0 ask'.0 (ap (λ ws. behind_one (behind_two ws)) same)) i) (files i) ((ap (λ ws. first (behind_two ws)) same) i)
-  by (Dead file) (Dead file') ask ask' letters = let files : file ≡ file' = ap second (sym ask ∙ ask') in λ i. Dead (files i)
-  by (World rooms options) (World rooms' options') ask ask' letters =
-      let same : codes "world" ∷ decimal rooms ∷ ask.2.0 ≡ codes "world" ∷ decimal rooms' ∷ ask'.2.0 = sym ask.2.1 ∙ ask'.2.1 in
-      let numbers : rooms ≡ rooms' = decimal_injective rooms rooms' (omega (arith, ask.0.1)) (omega (arith, ask'.0.1)) (ap second same) in
-      λ i. World (numbers i) ((given_once ask'.2.0 options options' (subst (λ ws. Give ws options) (ap behind_two same) ask.2.2) ask'.2.2) i)
-  by (Examine task file log) (Play file' options) ask ask' letters = let is = task_letters task in absurd (omega (arith, is.1, is.2, letters))
-  by (Examine task file log) (Dead file') ask ask' letters = let is = task_letters task in absurd (omega (arith, is.1, is.2, letters))
-  by (Examine task file log) (World rooms options) ask ask' letters = let is = task_letters task in absurd (omega (arith, is.1, is.2, letters))
-  by (Play file' options) (Examine task file log) ask ask' letters = let is = task_letters task in absurd (omega (arith, is.1, is.2, letters))
-  by (Dead file') (Examine task file log) ask ask' letters = let is = task_letters task in absurd (omega (arith, is.1, is.2, letters))
-  by (World rooms options) (Examine task file log) ask ask' letters = let is = task_letters task in absurd (omega (arith, is.1, is.2, letters))
-  by one other ask ask' letters = absurd (omega (arith, letters))
+one_request words (Play file options) (Play file' options') ask ask' =
+    let same : play_word options.players ∷ file ∷ ask.0 ≡ play_word options'.players ∷ file' ∷ ask'.0 = sym ask.1 ∙ ask'.1 in
+    let files : file ≡ file' = ap (λ ws. get_or ws 1 []) same in
+    λ i. Play (files i) ((given_once ask'.0 options options' (subst (λ ws. Give ws options) (ap (drop 2) same) ask.2) ask'.2) i)
+one_request words (Examine task file log) (Examine task' file' log') ask ask' =
+    let same : task_word task ∷ file ∷ log ∷ map option_text (options_of task) ≡ task_word task' ∷ file' ∷ log' ∷ map option_text (options_of task') = sym ask.1 ∙ ask'.1 in
+    let files : file ≡ file' = ap (λ ws. get_or ws 1 []) same in
+    λ i. Examine ((one_task task task' (sym (tells_letter words (Examine task file log) ask) ∙ tells_letter words (Examine task' file' log') ask') ask.0 ask'.0 (ap (drop 3) same)) i) (files i) ((ap (λ ws. get_or ws 2 []) same) i)
+one_request words (Dead file) (Dead file') ask ask' = let files : file ≡ file' = ap (λ ws. get_or ws 1 []) (sym ask ∙ ask') in λ i. Dead (files i)
+one_request words (World rooms options) (World rooms' options') ask ask' =
+    let same : codes "world" ∷ decimal rooms ∷ ask.2.0 ≡ codes "world" ∷ decimal rooms' ∷ ask'.2.0 = sym ask.2.1 ∙ ask'.2.1 in
+    let numbers : rooms ≡ rooms' = decimal_injective rooms rooms' (omega (arith, ask.0.1)) (omega (arith, ask'.0.1)) (ap (λ ws. get_or ws 1 []) same) in
+    λ i. World (numbers i) ((given_once ask'.2.0 options options' (subst (λ ws. Give ws options) (ap (drop 2) same) ask.2.2) ask'.2.2) i)
+one_request words one other ask ask' = grind (arith, task_letter, tells_letter words one ask, tells_letter words other ask')

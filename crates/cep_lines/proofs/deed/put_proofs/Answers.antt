@@ -1,6 +1,5 @@
-use Rattle.std.proofs.Common.{◌≡◌, ℕ, ◌+◌, ◌<◌, ◌≤◌, List, map, drop, length, Some, refl, sym, subst}
+use Rattle.std.proofs.Common.{◌≡◌, ℕ, ◌<◌, ◌≤◌, List, map, length, Some, refl, sym, subst}
 use Rattle.std.specs.Prelude.{slice_get, get_or}
-use Rattle.std.specs.List.{flat_map}
 use Rattle.std.proofs.lemmas.List.{length-map}
 use Rattle.std.proofs.lemmas.Option.{slice_get_read}
 use Rattle.cep_base.proofs.Lists.{holds_at, get_mapped}
@@ -9,7 +8,7 @@ use Rattle.cep_rule.specs.declared.derivation.Derivation.{Derivation}
 use Rattle.cep_rule.specs.Derivations.{proof_of}
 use Rattle.cep_rule.specs.Shapes.{IsProofOf}
 use Rattle.cep_lines.specs.Lines.{by_line, by_lines}
-use Rattle.cep_lines.proofs.Adding.{adding_next, adding_done, adding_breaks, lines_left, no_lines_left}
+use Rattle.cep_lines.proofs.Adding.{line_added, line_breaks, lines_done}
 use Rattle.cep_lines.proofs.deed.put_proofs.Goals as goal
 
 -- the derivation at a place of the list
@@ -23,28 +22,18 @@ put_by-requires c =
 
 pub loop-proof-preserved : goal.loop-proof-preserved
 loop-proof-preserved c =
-    let f = by_line c.args.program.now in
-    let proofs = map proof_of c.args.proofs.now in
-    let i = c.loop-proof.proof-index in
-    let proof = proof_of c.proof-item.result in
-    adding_next c.args.out.now (flat_map f proofs) c.loop-proof.out c.put_by.new.out _ (f proof) (flat_map f (drop (i + 1) proofs)) c.loop-proof.invariant
-    (lines_left f proofs i proof (at_place c.args.proofs.now i c.proof-item.result c.loop-proof-test.true c.proof-item.is)) c.in_ok-put_by.ensures.ok
+    line_added (by_line c.args.program.now) (map proof_of c.args.proofs.now) c.args.out.now c.loop-proof.proof-index _ c.loop-proof.out c.put_by.new.out c.loop-proof.invariant
+    (at_place c.args.proofs.now c.loop-proof.proof-index c.proof-item.result c.loop-proof-test.true c.proof-item.is) c.in_ok-put_by.ensures.ok
 
 pub returns-in_err-put_by-clause-err : goal.returns-in_err-put_by-clause-err
 unfolding by_lines
 returns-in_err-put_by-clause-err c =
-    let f = by_line c.args.program.now in
-    let proofs = map proof_of c.args.proofs.now in
-    let i = c.loop-proof.proof-index in
-    let proof = proof_of c.proof-item.result in
     on_err c.from_residual.result _
-    (adding_breaks c.args.out.now (flat_map f proofs) c.loop-proof.out _ (f proof) (flat_map f (drop (i + 1) proofs)) c.put_by.new.out c.loop-proof.invariant
-    (lines_left f proofs i proof (at_place c.args.proofs.now i c.proof-item.result c.loop-proof-test.true c.proof-item.is)) c.in_err-put_by.ensures.err)
+    (line_breaks (by_line c.args.program.now) (map proof_of c.args.proofs.now) c.args.out.now c.loop-proof.proof-index _ c.loop-proof.out c.put_by.new.out c.loop-proof.invariant
+    (at_place c.args.proofs.now c.loop-proof.proof-index c.proof-item.result c.loop-proof-test.true c.proof-item.is) c.in_err-put_by.ensures.err)
 
 pub returns-clause-ok : goal.returns-clause-ok
 unfolding by_lines
 returns-clause-ok c =
-    let f = by_line c.args.program.now in
-    let proofs = map proof_of c.args.proofs.now in
-    adding_done c.args.out.now (flat_map f proofs) c.loop-proof.out _ c.loop-proof.invariant
-    (no_lines_left f proofs c.loop-proof.proof-index (subst (λ n. n ≤ c.loop-proof.proof-index) (sym (length-map c.args.proofs.now proof_of)) c.loop-proof-test.false))
+    lines_done (by_line c.args.program.now) (map proof_of c.args.proofs.now) c.args.out.now c.loop-proof.proof-index c.loop-proof.out c.loop-proof.invariant
+    (subst (λ n. n ≤ c.loop-proof.proof-index) (sym (length-map c.args.proofs.now proof_of)) c.loop-proof-test.false)

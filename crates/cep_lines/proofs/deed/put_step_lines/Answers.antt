@@ -2,14 +2,9 @@ use Rattle.std.proofs.Common.{map}
 use Rattle.std.proofs.lemmas.Result.{on_err_weaker}
 use Rattle.cep_base.proofs.Outcomes.{on_err}
 use Rattle.cep_rule.specs.Derivations.{proof_of}
-use Rattle.cep_lines.specs.Lines.{step_line, by_lines, next_line, step_lines}
+use Rattle.cep_lines.specs.Lines.{by_lines, next_line, step_lines}
 use Rattle.cep_lines.proofs.Adding.{begun_first, begun_second}
 use Rattle.cep_lines.proofs.deed.put_step_lines.Goals as goal
-
-pub returns-in_err-put_step-clause-err : goal.returns-in_err-put_step-clause-err
-unfolding step_lines
-returns-in_err-put_step-clause-err c =
-    on_err c.from_residual.result _ (begun_first c.args.out.now (step_line c.args.program.now c.args.offer.now) _ _ c.in_err-put_step.ensures.err)
 
 pub returns-in_err-put_proofs-clause-err : goal.returns-in_err-put_proofs-clause-err
 unfolding step_lines

@@ -1,14 +1,12 @@
-use Rattle.std.proofs.Common.{◌≤◌, ◌+◌, subst}
+use Rattle.std.proofs.Common.{◌≤◌, ◌+◌, refl, subst}
 use Rattle.cep_rule.specs.Matching.{offers_of}
 use Rattle.cep_lines.specs.Lines.{offer_line, offer_lines}
-use Rattle.cep_lines.proofs.Adding.{adding_none, adding_next, adding_done, adding_breaks, offers_from, whole_offers, offers_left, no_offers_left}
+use Rattle.cep_lines.proofs.Adding.{adding_none, adding_next, adding_done, adding_breaks, offers_from, offers_left, no_offers_left}
 use Rattle.cep_base.proofs.Outcomes.{on_err}
 use Rattle.cep_lines.proofs.offers.put_offers.Goals as goal
 
 pub loop-i-init : goal.loop-i-init
-loop-i-init g c =
-    let offers = offers_of (g.M.Matcher.offers_held c.args.matcher.now) c.args.group in
-    adding_none c.args.out.now (offer_lines c.args.program.now 1 offers) (offers_from c.args.program.now offers 0) (whole_offers c.args.program.now offers)
+loop-i-init g c = adding_none c.args.out.now _ _ refl
 
 pub loop-i-preserved : goal.loop-i-preserved
 loop-i-preserved g c =

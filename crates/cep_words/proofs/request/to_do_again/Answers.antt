@@ -1,5 +1,4 @@
 use Rattle.std.proofs.Common.{◌≡◌, length, [], map, ap, ◌∙◌, ◌∷◌, sym, arith}
-use Rattle.std.proofs.lemmas.Grind.{common_steps}
 use Rattle.std.specs.Prelude.{string_bytes, codes}
 use Rattle.std.proofs.lemmas.Slice.Eq.{bytes_eq-Decides}
 use Rattle.cep_words.proofs.OneRequest.{four_items}
@@ -16,9 +15,3 @@ returns-in_ok-seed-in-len4 c =
           ∙ ap (λ word. word ∷ string_bytes c.file-item.result ∷ string_bytes c.second-item.result ∷ string_bytes c.seed-item.result ∷ []) again
           ∙ ap (λ word. codes "again" ∷ string_bytes c.file-item.result ∷ string_bytes c.second-item.result ∷ word ∷ []) seed,
     )
-
-pub returns-in_err-seed-in-len4 : goal.returns-in_err-seed-in-len4
-returns-in_err-seed-in-len4 c = grind (arith, common_steps)
-
-pub returns-in_default : goal.returns-in_default
-returns-in_default c = grind (arith, common_steps)
