@@ -61,22 +61,7 @@ no_breaks (byte ∷ bytes) none = (not_break byte (byte == 10) refl (omega (arit
 
 -- a place with more bytes before it does not stand before one with fewer
 pub later_place : (before mid : List ℕ) (pos pos' : Pos) → IsPlaceAfter before pos → IsPlaceAfter (before ++ mid) pos' → ¬ (StandsBefore pos' pos)
-later_place before mid pos pos' is is' earlier =
-    let lines = sum_by-append one_break before mid in
-    let one = is.line in
-    let other = is'.line in
-    ⊎_elim
-    (λ (less : pos'.line < pos.line). omega (arith, lines, one, other, less))
-    (λ same.
-    let none : sum_by one_break mid ≡ 0 = let s = same.0 in omega (arith, lines, one, other, s) in
-    let whole : is'.lines ++ is'.bytes ≡ is.lines ++ (is.bytes ++ mid) = sym is'.cut ∙ ap (λ b. b ++ mid) is.cut ∙ append_assoc is.lines is.bytes mid in
-    let bytes = one_cut is'.lines is'.bytes is.lines (is.bytes ++ mid) whole is'.ended is.ended is'.unbroken (unbroken_both is.bytes mid is.unbroken (no_breaks mid none)) in
-    let size = ap length bytes ∙ length-append is.bytes mid in
-    let col = is.col in
-    let col' = is'.col in
-    let less = same.1 in
-    omega (arith, size, col, col', less))
-    earlier
+later_place before mid pos pos' is is' earlier = grind (arith, sum_by-append, one_break, append_assoc, one_cut, unbroken_both, no_breaks, length-append)
 
 take_nothing : (n : ℕ) → take {A = ℕ} n [] ≡ []
 take_nothing n = grind arith
@@ -96,19 +81,14 @@ places_rise text at at' pos pos' less is is' = later_place (take at text) (take_
 
 -- a place that does not stand before one does not stand before an earlier one
 pub chain : (one other next : Pos) → ¬ (StandsBefore other one) → ¬ (StandsBefore next other) → ¬ (StandsBefore next one)
-chain one other next no_ no' before = chained one.line other.line next.line one.col other.col next.col no_ no' before
-  where
-    chained : (l m n a b c : ℕ) → ¬ ((m < l) ⊎ ((m ≡ l) × (b < a))) → ¬ ((n < m) ⊎ ((n ≡ m) × (c < b))) → ¬ ((n < l) ⊎ ((n ≡ l) × (c < a)))
-    chained l m n a b c no_ no' before = grind (arith, cases_lt m l, cases_lt n m, cases_lt b a, cases_lt c b)
+chain one other next no_ no' before = grind (arith, cases_lt)
 
 no_order : (line line' col col' : ℕ) → ¬ ((line < line') ⊎ ((line ≡ line') × (col < col'))) → ¬ ((line' < line) ⊎ ((line' ≡ line) × (col' < col))) → (line ≡ line') × (col ≡ col')
 no_order line line' col col' not_before not_after = grind (arith, cases_lt)
 
 -- places of which neither stands before the other are one
 pub one_place : (one other : Pos) → ¬ (StandsBefore one other) → ¬ (StandsBefore other one) → one ≡ other
-one_place one other no_ no' =
-    let same = no_order one.line other.line one.col other.col no_ no' in
-    λ i. record { line = same.0 i; col = same.1 i }
+one_place one other no_ no' = grind (arith, no_order)
 
 -- of two places one does not stand before the other
 not_both : (one other : Pos) → StandsBefore one other → ¬ (StandsBefore other one)
@@ -184,10 +164,7 @@ least_of n (m ∷ ns) = min n (least_of m ns)
 
 least_there : (n : ℕ) (ns : List ℕ) → Contains (n ∷ ns) (least_of n ns)
 least_there n [] = contains_first n []
-least_there n (m ∷ ns) = ⊎_elim
-    (λ (less : n < least_of m ns). contains_same n (m ∷ ns) (min n (least_of m ns)) (omega arith))
-    (λ (less : least_of m ns ≤ n). let e : least_of m ns ≡ min n (least_of m ns) = omega arith in subst (Contains (n ∷ (m ∷ ns))) e (contains_behind n (m ∷ ns) (least_of m ns) (least_there m ns)))
-    (cases_lt n (least_of m ns))
+least_there n (m ∷ ns) = grind (arith, least_of m ns, contains_same, contains_behind n (m ∷ ns) (least_of m ns) (least_there m ns), cases_lt n (least_of m ns), least_there m ns)
 
 least_first : (n : ℕ) (ns : List ℕ) (k : ℕ) → Contains (n ∷ ns) k → least_of n ns ≤ k
 least_first n [] k there = ⊎_elim (λ (same : n ≡ k). omega arith) (λ later. absurd (contains_none k later)) (contains_cases n [] k there)

@@ -8,18 +8,18 @@ use Rattle.std.proofs.Common.{◌≡◌, ◌≢◌, List, [], ◌∷◌, ◌++�
 use Rattle.std.specs.List.{AllByRecursion, find, list_any, AllZip, position, position_or_len, flat_map}
 use Rattle.cep_rule.specs.Names.{AllDiffer, IsName, IsVariableName, IsWord, AreNames}
 use Rattle.cep_source.specs.declared.space.Space.{Space}
-use Rattle.cep_refusal.specs.declared.reason.Reason.TheVariants.{Twice, OverLimit, Unknown, WrongKind, WrongArity, BadQui}
+use Rattle.cep_refusal.specs.declared.reason.Reason.TheVariants.{Twice, OverLimit, BadQui}
 use Rattle.cep_refusal.specs.declared.fault.Fault.{Fault}
-use Rattle.cep_source.specs.Items.{Source, said, PredItem, ConItem, RuleItem, declares, sorts_of, preds_of, cons_in, cons_of, stages_of, rules_of, ClauseItem, clauses_of}
-use Rattle.cep_source.specs.Spaces.{Named, names_in, named, rule_name, unlabelled_behind, rule_names_from, is_in, pred_named, con_named}
+use Rattle.cep_source.specs.Items.{Source, said, PredItem, ConItem, RuleItem, declares, sorts_of, preds_of, cons_in, cons_of, stages_of, rules_of}
+use Rattle.cep_source.specs.Spaces.{Named, names_in, named, rule_name, unlabelled_behind, rule_names_from, is_in}
 use Rattle.cep_source.specs.Spaces.IsTwice.{again}
 use Rattle.cep_faults.specs.Misnamed.{Misnamed, IsQuiRule}
 use Rattle.cep_refusal.specs.First.{wrong}
-use Rattle.cep_faults.specs.Misnamed.Misnamed.{twice, over, unknown, wrong_kind, wrong_arity, wrong_term_arity, bad_qui}
+use Rattle.cep_faults.specs.Misnamed.Misnamed.{twice, over, bad_qui}
 use Rattle.cep_base.proofs.Elements.{contains_first, contains_behind, contains_cases, all_at, contains_left, contains_right, contains_map, contains_flat, contains_none, flat_cases, map_cases}
 use Rattle.std.specs.Prelude.{Option, Some, cond, slice_get, codes, decimal, ◌==◌, unwrap_or, None, ◌↔◌, IsSome, IfSome}
 use Rattle.cep_parse.specs.declared.raw.RawAtom.{RawAtom}
-use Rattle.cep_parse.specs.Raw.{raw_nodes, atoms_of}
+use Rattle.cep_parse.specs.Raw.{raw_nodes}
 use Rattle.cep_base.proofs.Lists.{none_some}
 pub use Rattle.cep_base.proofs.Lists.{all_flat, all_filtered as all_filter}
 use Rattle.std.proofs.Math.Seq.{drop-append_seam, take-append_seam}
@@ -31,26 +31,26 @@ use Rattle.cep_lex.specs.Words.{SpellsToken, IsShort, Runs}
 use Rattle.cep_lex.specs.Cuts.{Cuts, StartsWith}
 use Rattle.cep_parse.specs.Symbols.{slice_of}
 use Rattle.cep_parse.specs.declared.raw.Span.{Span}
-use Rattle.cep_parse.specs.Written.{IsTokenAt, IsNameAt, IsLabelOf, IsRuleOf, IsItemOf, Fill, IsCount}
+use Rattle.cep_parse.specs.Written.{IsTokenAt, IsNameAt, IsLabelOf, IsRuleOf, IsItemOf}
 use Rattle.cep_infer.specs.Shapes.{IsSource}
 use Rattle.std.proofs.lemmas.Fmt.{decimal_is_IsNumeral, length-decimal-le, decimal_injective}
 use Rattle.std.proofs.lemmas.Str.Parse.{digit_from_value}
-use Rattle.std.proofs.lemmas.Bool.{le-leb, eqb-true, eqb-false, lt-ltb}
+use Rattle.std.proofs.lemmas.Bool.{le-leb, lt-ltb}
 use Rattle.std.specs.Int.{IsInRange}
 use Rattle.std.specs.Str.Parse.{AllDigits}
 use Rattle.cep_parse.specs.declared.raw.RawItem.{RawItem}
 use Rattle.cep_faults.specs.Limits.{IsOver as overs}
 use Rattle.cep_ground.specs.Texts.{IsClean}
 use Rattle.std.specs.Str.{bytes_eq}
-use Rattle.cep_parse.specs.declared.raw.RawNode.{RawNode}
-use Rattle.cep_source.specs.Uses.{needed_atoms, made_atoms, clause_atoms, state_atoms, atoms_written, applied_at, uses_in, stages_named}
+use Rattle.cep_source.specs.Uses.{uses_in, stages_named}
 use Rattle.std.specs.Option.{option_map}
 use Rattle.std.proofs.lemmas.Slice.Eq.{bytes_eq-Decides}
 use Rattle.std.proofs.lemmas.List.{length-map}
 use Rattle.cep_parse.specs.declared.raw.RawKind.{RawKind}
 use Rattle.cep_source.specs.Variables.{Occurrence, occurrence_at, blanks_behind, occurrences_from, firsts_beside}
-use Rattle.cep_types.specs.Sites.{Site, Wanted, pred_types, node_types, sites_from, wanted_from}
-pub use Rattle.cep_types.proofs.Meeting.{wanted_both}
+use Rattle.cep_types.specs.Sites.{Site, Wanted, wanted_from}
+pub use Rattle.cep_types.proofs.Meeting.{wanted_both, nodes_at}
+pub use Rattle.cep_infer.proofs.RulesInTurn.{IsFound, any_found, not_otherwise, same_number, known, IsPredKnown, pred_known, IsConKnown, con_known, pred_types_are, con_types_are}
 use Rattle.std.proofs.lemmas.List.Recursion.{is_position_or_len}
 use Rattle.cep_types.specs.Heads.{number_of}
 use Rattle.std.proofs.Math.Nat.{mul-add-mod_self_left}
@@ -97,19 +97,6 @@ names_differ source clean space =
     (λ before after entry cut earlier. clean (wrong Twice entry.at) (twice (again space before after entry cut earlier refl)))
 
 -- What is found in a list.
-
--- something is found
-pub record IsFound {Y : Type 0} (found : Option Y) : Type 0 where
-  pub it : Y
-  pub found_is : found ≡ Some it
-
-found_any : {Y : Type 0} (b rest : Bool) (z : Y) (further : Option Y) → (b || rest) ≡ true → (rest ≡ true → IsFound further) → IsFound (cond b (Some z) further)
-found_any b rest z further any later = grind arith
-
--- where something passes, something is found
-pub any_found : {X Y : Type 0} (g : Y → X) (p : X → Bool) (ys : List Y) → list_any p (map g ys) ≡ true → IsFound (find (λ z. p (g z)) ys)
-any_found g p [] any = absurd cc
-any_found g p (z ∷ ys) any = found_any (p (g z)) (list_any p (map g ys)) z (find (λ w. p (g w)) ys) any (λ later. any_found g p ys later)
 
 -- what is found passes, and stands in the list
 pub record IsFoundIn {Y : Type 0} (p : Y → Bool) (ys : List Y) (y : Y) : Type 0 where
@@ -358,96 +345,7 @@ module _ (source : Source) (clean : IsClean source) (items : AllByRecursion (IsI
     differ = names_differ source clean.names space.Rules;
   }
 
--- In a text whose names are in order, each name that is used is declared, with the number of arguments with which it is used.
-
--- the names of the source are in order
-abbrev pub AreNamesClean : Source → Type 0
-AreNamesClean source = (fault : Fault) → ¬ (Misnamed source fault)
-
--- what is not otherwise is so
-pub not_otherwise : (b : Bool) → (b ≡ false → ⊥) → b ≡ true
-not_otherwise b never = grind arith
-
-not_other : (b : Bool) → (b ≡ true → ⊥) → b ≡ false
-not_other b never = grind arith
-
-pub same_number : (n m : ℕ) → ((n ≢ m) → ⊥) → n ≡ m
-same_number n m never = grind (arith, eqb-true, eqb-false)
-
--- a name that is used is in its space, since else no space would have it, or another
-pub known : (source : Source) (space : Space) (name : Span) → AreNamesClean source → Contains (uses_in source space) name → is_in source space (said source name) ≡ true
-known source space name clean used = not_otherwise _ (λ outside. clean (wrong Unknown name.from) (unknown space name used (λ other.
-    not_other _ (λ there. clean (wrong WrongKind name.from) (wrong_kind space other name used outside there refl))) refl))
-
--- the atoms of a rule, and of a clause, are atoms of the file
-pub needed_here : (source : Source) (rule : RuleItem) (raw : RawAtom) → Contains (rules_of source) rule → Contains (atoms_of rule.raw.left) raw → Contains (atoms_written source) raw
-needed_here source rule raw there inside = contains_left (needed_atoms source) _ raw (contains_flat (λ (one : RuleItem). atoms_of one.raw.left) (rules_of source) rule raw there inside)
-
-pub made_there : (source : Source) (rule : RuleItem) (raw : RawAtom) → Contains (rules_of source) rule → Contains (atoms_of rule.raw.right) raw → Contains (made_atoms source) raw
-made_there source rule raw there inside = contains_flat (λ (one : RuleItem). atoms_of one.raw.right) (rules_of source) rule raw there inside
-
-pub made_here : (source : Source) (raw : RawAtom) → Contains (made_atoms source) raw → Contains (atoms_written source) raw
-made_here source raw there = contains_right (needed_atoms source) _ raw (contains_left (made_atoms source) _ raw there)
-
-pub clause_there : (source : Source) (clause : ClauseItem) (raw : RawAtom) → Contains (clauses_of source) clause → Contains (clause.head ∷ clause.goals) raw → Contains (clause_atoms source) raw
-clause_there source clause raw there inside = contains_flat (λ (one : ClauseItem). one.head ∷ one.goals) (clauses_of source) clause raw there inside
-
-pub clause_atom_here : (source : Source) (raw : RawAtom) → Contains (clause_atoms source) raw → Contains (atoms_written source) raw
-clause_atom_here source raw there = contains_right (needed_atoms source) _ raw (contains_right (made_atoms source) _ raw (contains_left (clause_atoms source) _ raw there))
-
-pub state_atom_here : (source : Source) (raw : RawAtom) → Contains (state_atoms source) raw → Contains (atoms_written source) raw
-state_atom_here source raw there = contains_right (needed_atoms source) _ raw (contains_right (made_atoms source) _ raw (contains_right (clause_atoms source) (state_atoms source) raw there))
-
--- The predicate of an atom is declared, with as many arguments.
-pub record IsPredKnown (source : Source) (raw : RawAtom) : Type 0 where
-  pub pred : PredItem
-  pub found : pred_named source (said source raw.name) ≡ Some pred
-  pub count : raw.args ≡ length pred.args
-
-pub pred_known : (source : Source) (raw : RawAtom) → AreNamesClean source → Contains (atoms_written source) raw → IsPredKnown source raw
-pred_known source raw clean there =
-    let used = contains_map (λ (atom : RawAtom). atom.name) (atoms_written source) raw there in
-    let found = any_found (λ (pred : PredItem). named source pred.name) (λ other. bytes_eq other.name (said source raw.name)) (preds_of source) (known source space.Predicates raw.name clean used) in
-    record { pred = found.it; found = found.found_is; count = same_number _ _ (λ differ. clean (wrong WrongArity raw.name.from) (wrong_arity raw found.it there found.found_is differ refl)) }
-
--- The constructor of a node is declared, with as many arguments.
-pub record IsConKnown (source : Source) (at : Span) (args : ℕ) : Type 0 where
-  pub con : ConItem
-  pub found : con_named source (said source at) ≡ Some con
-  pub count : args ≡ length con.args
-
-pub con_known : (source : Source) (raw : RawAtom) (node : RawNode) → AreNamesClean source → Contains (atoms_written source) raw → Contains raw.nodes node → node.kind ≡ kind.App → IsConKnown source node.at node.args
-con_known source raw node clean there inside app =
-    let written = contains_flat (λ (atom : RawAtom). atom.nodes) (atoms_written source) raw node there inside in
-    let used = contains_flat (λ (one : RawNode). applied_at one.kind one.at) (raw_nodes (atoms_written source)) node node.at written (subst (λ shape. Contains (applied_at shape node.at) node.at) (sym app) (contains_first node.at [])) in
-    let found = any_found (λ (con : ConItem). named source con.name) (λ other. bytes_eq other.name (said source node.at)) (cons_of source) (known source space.Constructors node.at clean used) in
-    record { con = found.it; found = found.found_is; count = same_number _ _ (λ differ. clean (wrong WrongArity node.at.from) (wrong_term_arity node found.it written app found.found_is differ refl)) }
-
 -- The variables of atoms and the types that are wanted of them.
-
--- the nodes of terms
-abbrev pub nodes_at : List Site → List RawNode
-nodes_at sites = map (λ site. site.node) sites
-
--- the types that a predicate, and a constructor, wants of its arguments
-pub pred_types_are : (source : Source) (name : List ℕ) (pred : PredItem) → pred_named source name ≡ Some pred → pred_types source name ≡ map (said source) pred.args
-pred_types_are source name pred found = ap (λ (is : Option PredItem). map (said source) (unwrap_or (option_map (λ (one : PredItem). one.args) is) [])) found
-
-pub con_types_are : (source : Source) (at : Span) (con : ConItem) → con_named source (said source at) ≡ Some con → node_types source kind.App at ≡ map (said source) con.args
-con_types_are source at con found = ap (λ (is : Option ConItem). map (said source) (unwrap_or (option_map (λ (one : ConItem). one.args) is) [])) found
-
--- a constructor wants as many types as there are arguments, and a variable none
-types_count : (source : Source) (shape : RawKind) (at : Span) (args : ℕ) → IsCount shape args → (shape ≡ kind.App → IsConKnown source at args) → length (node_types source shape at) ≡ args
-types_count source shape at args count known = grind (arith, con_types_are, length-map)
-
--- each node of terms that are so many stands at a place of its own
-pub sites_whole : (source : Source) (types : List (List ℕ)) (nodes : List RawNode) → Fill (length types) nodes → ((node : RawNode) → Contains nodes node → node.kind ≡ kind.App → IsConKnown source node.at node.args) → nodes_at (sites_from source types nodes) ≡ nodes
-sites_whole source (wants ∷ next) (first ∷ nodes) fill known =
-    let count = types_count source first.kind first.at first.args fill.0 (known first (contains_first first nodes)) in
-    let size : first.args + length next ≡ length (node_types source first.kind first.at ++ next) = omega (arith, count, length-append (node_types source first.kind first.at) next) in
-    let rest = sites_whole source (node_types source first.kind first.at ++ next) nodes (subst (λ n. Fill n nodes) size fill.1) (λ node there. known node (contains_behind first nodes node there)) in
-    ap (λ ns. first ∷ ns) rest
-sites_whole source types nodes fill known = grind arith
 
 -- the variables of terms are those of their nodes
 pub wanted_names : (source : Source) (blanks : ℕ) (sites : List Site) → map (λ (w : Wanted). w.name) (wanted_from source blanks sites) ≡ map (λ (o : Occurrence). o.name) (occurrences_from source blanks (nodes_at sites))

@@ -743,10 +743,7 @@ module _ (lexed : LexedOnce) (text : List ℕ) where
 
       -- where all rules are grounded, no premise is ungrounded
       none_ungrounded : (parts : Parts) → AreParts source parts → AllByRecursion (IsGrounded parts.clauses) parts.rules → (at : ℕ) → IsUngroundedIn source at → ⊥
-      none_ungrounded parts are grounded at bad =
-          let here = parts_once source bad.parts parts bad.declared are in
-          holds_at (IsGrounded parts.clauses) parts.rules bad.number bad.rule grounded (subst (λ (p : Parts). slice_get p.rules bad.number ≡ Some bad.rule) here bad.numbered)
-          bad.premise (subst (λ (p : Parts). IsUngroundedAt p.clauses bad.rule bad.premise) here bad.calls)
+      none_ungrounded parts are grounded at bad = grind (arith, parts_once source bad.parts parts bad.declared are, holds_at, grounded)
 
       pub refused_ungrounded : (clean : IsClean source) → IsBound source → (at : ℕ) → IsUngroundedIn source at → ((at' : ℕ) → IsUngroundedIn source at' → at ≤ at') → IsRefusedFor text (wrong Ungrounded at)
       refused_ungrounded clean bound at bad least = record { holds = ungrounded source at text_is clean bad refl; first = λ other is. first other (wrong_in other is) }

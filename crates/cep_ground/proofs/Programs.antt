@@ -21,7 +21,8 @@ use Rattle.cep_faults.specs.Limits.{IsOver as overs}
 use Rattle.cep_types.specs.Sites.{rule_scope, clause_scope, IsScope as scopes}
 use Rattle.cep_ground.specs.Texts.{IsClean, IsBound}
 use Rattle.cep_base.proofs.Elements.{contains_map, all_at, contains_none, contains_first, contains_behind, contains_cases, contains_left, contains_right, all_of}
-use Rattle.cep_ground.proofs.NameLaws.{all_unmap, at_most, nodes_few, all_map, tokens_few, all_filter, map_twice, state_atom_here, all_zip, rules_few, sort_names, stage_names, con_names, pred_names, rule_names, used_stage, rule_grouped, rule_next}
+use Rattle.cep_infer.proofs.RulesInTurn.{state_atom_here}
+use Rattle.cep_ground.proofs.NameLaws.{all_unmap, at_most, nodes_few, all_map, tokens_few, all_filter, map_twice, all_zip, rules_few, sort_names, stage_names, con_names, pred_names, rule_names, used_stage, rule_grouped, rule_next}
 use Rattle.cep_ground.proofs.Scopes.{IsHere, typed_atoms, atom_alike, raw_depth, not_greater}
 use Rattle.std.specs.List.{AllByRecursion, flat_map, list_any, AllZip}
 use Rattle.cep_source.specs.Variables.{Occurrence, blanks_behind, occurrences_from, variables_of, blanks_after}

@@ -26,7 +26,8 @@ use Rattle.cep_types.specs.Sites.{Site, sites_of, IsScope, rule_scope, clause_sc
 use Rattle.cep_infer.specs.Shapes.{IsSource}
 use Rattle.cep_ground.specs.Texts.{IsClean}
 use Rattle.cep_base.proofs.Elements.{both_all, contains_either, contains_map, flat_cases, all_at, contains_none, contains_first, contains_behind, contains_cases, contains_left, contains_right, contains_flat, map_cases, all_of, contains_at}
-use Rattle.cep_ground.proofs.NameLaws.{all_unmap, all_passing, there_within, not_otherwise, pred_known, needed_here, made_there, made_here, clause_there, clause_atom_here, known, at_most, filters_cover, nodes_few, all_map, variable_word, tokens_few, variable_is, any_found, found_in, AreWords, wanted_names, is_any, firsts_there, number_within, IsFound, filter_keeps, all_filter, any_is, nodes_at, wanted_both, located}
+use Rattle.cep_infer.proofs.RulesInTurn.{made_there, clause_there, rule_written, clause_written}
+use Rattle.cep_ground.proofs.NameLaws.{all_unmap, all_passing, there_within, not_otherwise, pred_known, known, at_most, filters_cover, nodes_few, all_map, variable_word, tokens_few, variable_is, any_found, found_in, AreWords, wanted_names, is_any, firsts_there, number_within, IsFound, filter_keeps, all_filter, any_is, nodes_at, wanted_both, located}
 use Rattle.cep_ground.proofs.Scopes.{IsHere, scope_nodes, typed_atoms}
 use Rattle.std.proofs.lemmas.Fmt.{length-decimal-le}
 use Rattle.std.specs.Str.{bytes_eq}
@@ -89,7 +90,7 @@ module _ (source : Source) (clean : IsClean source) (made : AtomsMade source) wh
 
   pub words : (atoms : List RawAtom) → AreHere atoms → AreWords source (sites_of source atoms)
   words atoms are site there shaped =
-      let whole = scope_nodes source clean.names clean.types atoms are.here in
+      let whole = scope_nodes source clean.names atoms are.here in
       let node : Contains (raw_nodes atoms) site.node = subst (λ ns. Contains ns site.node) whole (contains_map (λ (s : Site). s.node) (sites_of source atoms) site there) in
       let from = flat_cases (λ (atom : RawAtom). atom.nodes) atoms site.node node in
       let is = atom_of_tokens from.from (are.here from.from from.there).there in
@@ -98,19 +99,16 @@ module _ (source : Source) (clean : IsClean source) (made : AtomsMade source) wh
   -- the terms are not too many to be numbered
   pub short : (atoms : List RawAtom) → AreHere atoms → length (sites_of source atoms) < 2 ^ 64
   short atoms are =
-      let whole = scope_nodes source clean.names clean.types atoms are.here in
+      let whole = scope_nodes source clean.names atoms are.here in
       let size = length-map (sites_of source atoms) (λ (s : Site). s.node) in
       omega (arith, (sym size ∙ ap length whole), (nodes_few atoms (λ raw there. let s = nodes_short raw (are.here raw there) in omega (arith, s))), are.few)
 
   -- the atoms of a left side stand in the file, and those of a right side
   pub left_here : (rule : RuleItem) → Contains (rules_of source) rule → (raw : RawAtom) → Contains (atoms_of rule.raw.left) raw → IsHere source raw
-  left_here rule there raw inside = here_at raw (needed_here source rule raw there inside)
-
-  pub right_at : (rule : RuleItem) → Contains (rules_of source) rule → (raw : RawAtom) → Contains (atoms_of rule.raw.right) raw → Contains (made_atoms source) raw
-  right_at rule there raw inside = made_there source rule raw there inside
+  left_here rule there raw inside = here_at raw (rule_written source rule there raw (contains_left (atoms_of rule.raw.left) _ raw inside))
 
   pub right_here : (rule : RuleItem) → Contains (rules_of source) rule → (raw : RawAtom) → Contains (atoms_of rule.raw.right) raw → IsHere source raw
-  right_here rule there raw inside = here_at raw (made_here source raw (right_at rule there raw inside))
+  right_here rule there raw inside = here_at raw (rule_written source rule there raw (contains_right (atoms_of rule.raw.left) _ raw inside))
 
   either_kind : (its : PredKind) → (may_be_state (Some its) ≡ true) ⊎ (may_be_backward (Some its) ≡ true)
   either_kind its = grind arith
@@ -142,18 +140,14 @@ module _ (source : Source) (clean : IsClean source) (made : AtomsMade source) wh
   pub rule_here : (rule : RuleItem) → Contains (rules_of source) rule → AreHere (rule_scope rule)
   rule_here rule there = record {
     scope = scopes.rule rule there refl;
-    here = λ raw inside. ⊎_elim (λ left. left_here rule there raw left) (λ right_. right_here rule there raw right_) (contains_either (atoms_of rule.raw.left) (atoms_of rule.raw.right) raw inside);
+    here = λ raw inside. here_at raw (rule_written source rule there raw inside);
     few = let e = length-append (atoms_of rule.raw.left) (atoms_of rule.raw.right) in let l = left_few rule there in let r = right_few rule there in omega (arith, e, l, r);
   }
-
-  -- the atoms of a clause
-  pub clause_at : (clause : ClauseItem) → Contains (clauses_of source) clause → (raw : RawAtom) → Contains (clause_scope clause) raw → Contains (clause_atoms source) raw
-  clause_at clause there raw inside = clause_there source clause raw there inside
 
   pub clause_here : (clause : ClauseItem) → Contains (clauses_of source) clause → AreHere (clause_scope clause)
   clause_here clause there = record {
     scope = scopes.clause clause there refl;
-    here = λ raw inside. here_at raw (clause_atom_here source raw (clause_at clause there raw inside));
+    here = λ raw inside. here_at raw (clause_written source clause there raw inside);
     few = let g = goals_few clause there in omega (arith, g);
   }
 
@@ -223,7 +217,7 @@ module _ (source : Source) (clean : IsClean source) (made : AtomsMade source) wh
   -- the type of each variable of the atoms is declared
   kind_in_range : (atoms : List RawAtom) → AreHere source clean made atoms → (o : Occurrence) → Contains (variables_of source atoms) o → number_of source space.Sorts (unwrap_or (type_of source atoms o.name) []) < length (sorts_of source)
   kind_in_range atoms are o there =
-      let names_are = wanted_names source 0 (sites_of source atoms) ∙ ap (λ ns. map (λ (o : Occurrence). o.name) (occurrences_from source 0 ns)) (scope_nodes source clean.names clean.types atoms are.here) in
+      let names_are = wanted_names source 0 (sites_of source atoms) ∙ ap (λ ns. map (λ (o : Occurrence). o.name) (occurrences_from source 0 ns)) (scope_nodes source clean.names atoms are.here) in
       let occurs = firsts_there [] (occurrences_of source atoms) o there in
       let named_ : Contains (map (λ (w : Wanted). w.name) (wanted_from source 0 (sites_of source atoms))) o.name = subst (λ ns. Contains ns o.name) (sym names_are) (contains_map (λ (o : Occurrence). o.name) (occurrences_of source atoms) o occurs) in
       let found = any_found (λ (w : Wanted). w.name) (λ name. bytes_eq name o.name) (wanted_from source 0 (sites_of source atoms)) (is_any _ o.name named_) in
@@ -508,7 +502,7 @@ module _ (source : Source) (clean : IsClean source) (atoms_made : AtomsMade sour
       let sites_both : sites_of source scope ≡ sites_of source left ++ sites_of source right = flat_map-append _ left right in
       let wanted_all : wanted_from source 0 (sites_of source scope) ≡ wanted_from source 0 (sites_of source left) ++ wanted_from source (blanks_after 0 (nodes_at (sites_of source left))) (sites_of source right) =
       ap (wanted_from source 0) sites_both ∙ wanted_both source 0 (sites_of source left) (sites_of source right) in
-      let after : blanks_after 0 (nodes_at (sites_of source left)) ≡ blanks_after 0 (raw_nodes left) = ap (blanks_after 0) (scope_nodes source clean.names clean.types left (left_here source clean atoms_made item there)) in
+      let after : blanks_after 0 (nodes_at (sites_of source left)) ≡ blanks_after 0 (raw_nodes left) = ap (blanks_after 0) (scope_nodes source clean.names left (left_here source clean atoms_made item there)) in
       let list_typed = typed_atoms source clean.names clean.types scope all.scope all.here w s left (map (λ p. p.atom) by.left) 0 (left_here source clean atoms_made item there)
       (λ site inside. subst (λ sites. Contains sites site) (sym sites_both) (contains_left (sites_of source left) (sites_of source right) site inside))
       (λ wanted inside. subst (λ ws. Contains ws wanted) (sym wanted_all) (contains_left (wanted_from source 0 (sites_of source left)) _ wanted inside))
@@ -535,7 +529,7 @@ module _ (source : Source) (clean : IsClean source) (atoms_made : AtomsMade sour
         facts = subst (AllByRecursion (λ (p : PremiseTree). is_fact (signature_of source) p.atom ≡ true → p.kept ≡ true)) (sym by.premises_are)
             (all_filter (λ (p : PremiseTree). is_fact (signature_of source) p.atom ≡ true → p.kept ≡ true) (λ p. not (is_back source p.atom)) by.left (kept_facts rule.vars 0 item.raw.left by.left by.left_is));
         backs = subst (AllByRecursion (IsBackward (signature_of source))) (sym by.backs_are) (part_passing IsJudged _ _ by.left (λ p j is. backward_is p.atom j is) judged);
-        right = right_of_state rule.vars _ (atoms_of item.raw.right) rule.right (right_at source clean atoms_made item there) (right_here source clean atoms_made item there) by.right_is;
+        right = right_of_state rule.vars _ (atoms_of item.raw.right) rule.right (made_there source item there) (right_here source clean atoms_made item there) by.right_is;
       }
 
   -- a clause is well typed
@@ -553,4 +547,4 @@ module _ (source : Source) (clean : IsClean source) (atoms_made : AtomsMade sour
       }
 
   pub clause_divided : (item : ClauseItem) (clause : ClauseTree) → Contains (clauses_of source) item → IsClauseBy source item clause → IsDividedClause (signature_of source) clause
-  clause_divided item clause there by = grind (arith, clause_backward clause.vars 0 (clause_scope item) (clause.head ∷ clause.goals) (clause_at source clean atoms_made item there) (clause_here source clean atoms_made item there).here by.atoms_are)
+  clause_divided item clause there by = grind (arith, clause_backward clause.vars 0 (clause_scope item) (clause.head ∷ clause.goals) (clause_there source item there) (clause_here source clean atoms_made item there).here by.atoms_are)

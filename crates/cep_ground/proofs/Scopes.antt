@@ -1,7 +1,7 @@
 -- The atoms of states are ground, well typed and as deep as they are written; and so are those of a scope, whose variables have the types that are wanted of them.
 use Rattle.std.proofs.Common.{◌≡◌, ◌⊎◌, inl, inr, ⊎_elim, ℕ, ◌+◌, ◌-◌, ◌<◌, ◌≤◌, List, [], ◌∷◌, ◌++◌, refl, sym, ap, ◌∙◌, arith, append_assoc, max, length, map, subst, ◌^◌, Contains}
 use Rattle.std.proofs.Math.Nat.{le-max_left, le-max_right, max-le}
-use Rattle.std.proofs.lemmas.List.{append-nil, map-append, length-map}
+use Rattle.std.proofs.lemmas.List.{append-nil, length-map}
 use Rattle.std.proofs.lemmas.Bool.{ltb-true, ltb-false}
 use Rattle.std.specs.List.{repeat, AllByRecursion, find}
 use Rattle.cep_parse.specs.declared.raw.Span.{Span}
@@ -22,19 +22,18 @@ use Rattle.cep_types.specs.Sites.{node_types, Site, Wanted, pred_types, sites_fr
 use Rattle.std.proofs.lemmas.Option.{slice_get-map}
 use Rattle.std.specs.Option.{option_map}
 use Rattle.std.specs.Str.{bytes_eq}
-use Rattle.cep_parse.specs.Written.{Fill}
 use Rattle.cep_rule.specs.declared.signature.PredDecl.{PredDecl}
 use Rattle.cep_refusal.specs.declared.fault.Fault.{Fault}
 use Rattle.cep_refusal.specs.declared.reason.Reason.TheVariants.{TypeClash}
 use Rattle.cep_source.specs.Spaces.{named, con_named}
 use Rattle.cep_parse.specs.Raw.{raw_nodes}
-use Rattle.cep_source.specs.Uses.{atoms_written}
 use Rattle.cep_refusal.specs.First.{wrong}
 use Rattle.cep_types.specs.Sites.Mistyped.{constructor, variable}
+use Rattle.cep_infer.specs.Resolved.{IsWellNamed}
 use Rattle.cep_infer.specs.Meaning.{con_by, pred_by, signature_of, names_of, kinds_of}
 use Rattle.cep_base.proofs.Elements.{contains_none, contains_first, contains_behind, contains_left, contains_right, contains_map}
-use Rattle.cep_ground.proofs.NameLaws.{same_unless, map_twice, IsFound, any_found, found_in, AreNamesClean, IsPredKnown, pred_known, IsConKnown, con_known, located, nodes_at, pred_types_are, con_types_are, sites_whole, wanted_both, wanted_names, same_bytes, is_any, first_there, IsFirstIn, AreWords, first_wanted}
-use Rattle.cep_ground.proofs.NameLaws.IsFirstIn.{written, blank}
+use Rattle.cep_ground.proofs.NameLaws.{same_unless, map_twice, IsFound, any_found, found_in, IsConKnown, pred_known, con_known, located, nodes_at, pred_types_are, con_types_are, wanted_both, wanted_names, same_bytes, is_any, first_there, IsFirstIn, AreWords, first_wanted}
+pub use Rattle.cep_infer.proofs.RulesInTurn.{IsHere, here_count, here_nodes, scope_nodes}
 use Rattle.cep_parse.specs.declared.raw.RawKind.TheVariants as kind
 use Rattle.cep_source.specs.declared.space.Space.TheVariants as space
 
@@ -211,31 +210,7 @@ module _ (source : Source) (vars : List (List ℕ)) (kinds : List ℕ) (cons : L
 
 -- The variables of a scope have the types that are wanted of them, and its atoms are well typed.
 
--- An atom stands in the file, and its nodes are its arguments.
-pub record IsHere (source : Source) (raw : RawAtom) : Type 0 where
-  pub there : Contains (atoms_written source) raw
-  pub filled : Fill raw.args raw.nodes
-
-module _ (source : Source) (names : AreNamesClean source) (types : (fault : Fault) → ¬ (Mistyped source fault)) where
-  -- the predicate of an atom that is here
-  here_pred : (raw : RawAtom) → IsHere source raw → IsPredKnown source raw
-  here_pred raw here = pred_known source raw names here.there
-
-  here_con : (raw : RawAtom) → IsHere source raw → (node : RawNode) → Contains raw.nodes node → node.kind ≡ kind.App → IsConKnown source node.at node.args
-  here_con raw here node inside is = con_known source raw node names here.there inside is
-
-  -- as many types are wanted as there are arguments
-  here_count : (raw : RawAtom) → IsHere source raw → raw.args ≡ length (pred_types source (said source raw.name))
-  here_count raw here = grind (arith, here_pred raw here, length-map, pred_types_are, raw.name)
-
-  -- each node of the atom is a term of it
-  pub here_nodes : (raw : RawAtom) → IsHere source raw → nodes_at (sites_in source raw) ≡ raw.nodes
-  here_nodes raw here = grind (arith, sites_whole, here_count raw here, here_con raw here, raw.name, raw.nodes, here.filled)
-
-  pub scope_nodes : (atoms : List RawAtom) → ((raw : RawAtom) → Contains atoms raw → IsHere source raw) → nodes_at (sites_of source atoms) ≡ raw_nodes atoms
-  scope_nodes [] here = refl
-  scope_nodes (raw ∷ atoms) here = rw (map-append (λ (site : Site). site.node) (sites_in source raw) (sites_of source atoms), here_nodes raw (here raw (contains_first raw atoms)), scope_nodes atoms (λ other there. here other (contains_behind raw atoms other there)))
-
+module _ (source : Source) (names : IsWellNamed source) (types : (fault : Fault) → ¬ (Mistyped source fault)) where
   module _ (atoms : List RawAtom) (scope : IsScope source atoms) (here : (raw : RawAtom) → Contains atoms raw → IsHere source raw) (words : AreWords source (sites_of source atoms)) (short : length (sites_of source atoms) < 2 ^ 64) where
     -- where a name is wanted it is found
     wanted_found : (w : Wanted) → Contains (wanted_from source 0 (sites_of source atoms)) w → IsFound (find (λ (v : Wanted). bytes_eq v.name w.name) (wanted_from source 0 (sites_of source atoms)))
@@ -247,12 +222,7 @@ module _ (source : Source) (names : AreNamesClean source) (types : (fault : Faul
     no_clash site first there is type_is = same_unless first site.wants (λ differ. types (wrong TypeClash site.node.at.from) (variable atoms site first scope there is type_is differ refl))
 
     type_by : (w : Wanted) → Contains (wanted_from source 0 (sites_of source atoms)) w → IsFirstIn source 0 (wanted_from source 0 (sites_of source atoms)) (sites_of source atoms) w → type_of source atoms w.name ≡ Some w.wants
-    type_by w there (blank number above below name found) = ap (option_map (λ (v : Wanted). v.wants)) found
-    type_by w there (written site inside is name wants) =
-        let found = wanted_found w there in
-        let type_is : type_of source atoms w.name ≡ Some found.it.wants = ap (option_map (λ (v : Wanted). v.wants)) found.found_is in
-        let said_is : type_of source atoms (said source site.node.at) ≡ Some found.it.wants = subst (λ n. type_of source atoms n ≡ Some found.it.wants) name type_is in
-        type_is ∙ ap Some ((no_clash site found.it.wants inside is said_is) ∙ sym wants)
+    type_by w there given = grind (arith, wanted_found w there, no_clash)
 
     -- the type that is wanted of a variable is the same wherever it occurs
     type_once : (w : Wanted) → Contains (wanted_from source 0 (sites_of source atoms)) w → type_of source atoms w.name ≡ Some w.wants
@@ -261,7 +231,7 @@ module _ (source : Source) (names : AreNamesClean source) (types : (fault : Faul
     -- a variable that is wanted is one of those of the scope
     variable_found : (w : Wanted) → Contains (wanted_from source 0 (sites_of source atoms)) w → IsFound (find (λ (o : Occurrence). bytes_eq o.name w.name) (variables_of source atoms))
     variable_found w there =
-        let names_are = wanted_names source 0 (sites_of source atoms) ∙ ap (λ ns. map (λ (o : Occurrence). o.name) (occurrences_from source 0 ns)) (scope_nodes atoms here) in
+        let names_are = wanted_names source 0 (sites_of source atoms) ∙ ap (λ ns. map (λ (o : Occurrence). o.name) (occurrences_from source 0 ns)) (scope_nodes source names atoms here) in
         let occurs : Contains (map (λ (o : Occurrence). o.name) (occurrences_from source 0 (raw_nodes atoms))) w.name = subst (λ ns. Contains ns w.name) names_are (contains_map (λ (v : Wanted). v.name) _ w there) in
         any_found (λ (o : Occurrence). o.name) (λ name. bytes_eq name w.name) (variables_of source atoms)
         (is_any _ w.name (⊎_elim (λ never. absurd (contains_none w.name never)) (λ first. first) (first_there [] (occurrences_from source 0 (raw_nodes atoms)) w.name occurs)))
@@ -326,12 +296,12 @@ module _ (source : Source) (names : AreNamesClean source) (types : (fault : Faul
         → IsAtomBy source (names_of source atoms) blanks raw atom
         → IsTyped (signature_of source) (kinds_of source atoms) atom
     typed_atom raw atom blanks is sites_there wanted_there by =
-        let known = here_pred raw is in
+        let known = pred_known source raw names is.there in
         let spot = located (λ (pred : PredItem). named source pred.name) (λ other. bytes_eq other.name (said source raw.name)) (preds_of source) known.pred known.found in
         let types_ = pred_types source (said source raw.name) in
-        let good = good_nodes types_ raw.nodes blanks (here_con raw is) sites_there wanted_there in
+        let good = good_nodes types_ raw.nodes blanks (con_known source raw names is.there) sites_there wanted_there in
         let typed = typed_args source (names_of source atoms) (kinds_of source atoms) (map (con_by source) (cons_of source)) atom.args types_ [] [] blanks raw.nodes
-        (by.count ∙ here_count raw is)
+        (by.count ∙ here_count source names raw is)
         (append-nil (heads_among atom.args) ∙ by.heads)
         (subst (λ ts. AreGood source (names_of source atoms) (kinds_of source atoms) (map (con_by source) (cons_of source)) blanks ts raw.nodes) (sym (append-nil types_)) good) in
         let sorts : map (number_of source space.Sorts) types_ ≡ sorts_said source known.pred.args = ap (map (number_of source space.Sorts)) (pred_types_are source (said source raw.name) known.pred known.found) ∙ map_twice (number_of source space.Sorts) (said source) known.pred.args in
@@ -351,7 +321,7 @@ module _ (source : Source) (names : AreNamesClean source) (types : (fault : Faul
     typed_atoms (raw ∷ raws) (atom ∷ list) blanks here' sites_there wanted_there by =
         let is = here' raw (contains_first raw raws) in
         let both = wanted_both source blanks (sites_in source raw) (sites_of source raws) in
-        let after : blanks_after blanks (nodes_at (sites_in source raw)) ≡ blanks_after blanks raw.nodes = ap (blanks_after blanks) (here_nodes raw is) in (
+        let after : blanks_after blanks (nodes_at (sites_in source raw)) ≡ blanks_after blanks raw.nodes = ap (blanks_after blanks) (here_nodes source names raw is) in (
           typed_atom raw atom blanks is
               (λ site inside. sites_there site (contains_left (sites_in source raw) (sites_of source raws) site inside))
               (λ w inside. wanted_there w (subst (λ ws. Contains ws w) (sym both) (contains_left (wanted_from source blanks (sites_in source raw)) _ w inside)))

@@ -1,21 +1,21 @@
--- The nodes of terms, the variables and blanks among them, and the atoms and premises that are built of them.
+-- The nodes of terms, the variables and blanks among them, the atoms and premises that are built of them, and what holds of them in a text without wrong names.
 use Rattle.cep_base.proofs.Members.{in_filter, to_contains, from_contains}
 use Rattle.std.proofs.lemmas.List.Folds.{find_at}
 use Rattle.std.specs.List.{position_or_len}
 use Rattle.cep_base.proofs.Elements.{contains_at}
-use Rattle.std.proofs.Common.{List, map, ◌≡◌, ℕ, ◌+◌, Bool, true, false, ◌||◌, if◌then◌else◌, cond, [], ◌∷◌, ◌++◌, fold, Option, Some, None, unwrap_or, refl, ap, sym, ◌∙◌, append_assoc, ◌<◌, not, filter, length, take, get_or, subst, arith, Contains, suc, drop, ◌≤◌}
+use Rattle.std.proofs.Common.{List, map, ◌≡◌, ◌≢◌, ◌⊎◌, ⊎_elim, ℕ, ◌+◌, ◌-◌, Bool, true, false, ◌||◌, if◌then◌else◌, cond, [], ◌∷◌, ◌++◌, fold, Option, Some, None, unwrap_or, refl, ap, sym, ◌∙◌, append_assoc, ◌<◌, not, filter, length, take, get_or, subst, arith, Contains, suc, drop, ◌≤◌, length-append}
 use Rattle.cep_parse.specs.declared.raw.RawNode.{RawNode}
-use Rattle.cep_types.specs.Sites.{Site, Wanted, sites_of, wanted_from, type_of, rule_scope}
-pub use Rattle.cep_types.proofs.Meeting.{blanks_both}
+use Rattle.cep_types.specs.Sites.{Site, Wanted, sites_of, wanted_from, type_of, rule_scope, clause_scope, pred_types, node_types, sites_from, sites_in}
+pub use Rattle.cep_types.proofs.Meeting.{blanks_both, nodes_at}
 use Rattle.std.specs.Option.{option_map}
-use Rattle.std.specs.List.{list_any, flat_map, AllZip, AllByRecursion}
+use Rattle.std.specs.List.{list_any, flat_map, AllZip, AllByRecursion, find}
 use Rattle.std.specs.Str.{bytes_eq}
 use Rattle.std.proofs.lemmas.List.{map-append, append-nil, take_more, drop_more, length-map, drop_all}
 use Rattle.std.proofs.lemmas.Simd.{map-map}
 use Rattle.std.proofs.lemmas.Slice.Eq.{bytes_eq-Decides}
 use Rattle.cep_parse.specs.declared.raw.Span.{Span}
 use Rattle.cep_parse.specs.declared.raw.RawAtom.{RawAtom}
-use Rattle.cep_source.specs.Items.{Source, said, TraceItem, ContextItem, contexts_of, traces_of, RuleItem, rules_of, ConItem, ClauseItem, declares, clauses_in, clauses_of, bare}
+use Rattle.cep_source.specs.Items.{Source, said, TraceItem, ContextItem, contexts_of, traces_of, RuleItem, rules_of, ConItem, ClauseItem, declares, clauses_in, clauses_of, bare, PredItem, preds_of, cons_of}
 use Rattle.cep_parse.specs.Raw.{raw_nodes, atoms_in, atoms_of, start_listed}
 use Rattle.cep_source.specs.Variables.{Occurrence, blanks_behind, occurrences_from, firsts_beside, variables_of, blanks_after, occurrence_at}
 use Rattle.cep_types.specs.Heads.{number_of, Head, var, con, head_at, heads_from}
@@ -30,7 +30,7 @@ use Rattle.std.proofs.lemmas.Grind.{flat_map-append}
 use Rattle.cep_parse.specs.declared.raw.RawElem.{RawElem}
 use Rattle.cep_term.specs.Tree.{AtomTree, Tree, Trees, variable, node, none as no_trees, more as more_trees, AreGround, IsGround, IsGroundAtom}
 use Rattle.cep_rule.specs.Patterns.{PremiseTree}
-use Rattle.cep_source.specs.Uses.{stands_for_context, state_atoms, stages_at, stages_named, needed_atoms, made_atoms, clause_atoms, atoms_written}
+use Rattle.cep_source.specs.Uses.{stands_for_context, state_atoms, stages_at, stages_named, needed_atoms, made_atoms, clause_atoms, atoms_written, applied_at, uses_in}
 use Rattle.cep_source.specs.Starts.{listed_in, start_atoms}
 use Rattle.cep_infer.specs.Heads.{IsAtomBy, AreAtomsBy, heads_of, heads_among}
 use Rattle.cep_infer.specs.declared.left.LeftSide.{LeftSide}
@@ -38,36 +38,33 @@ use Rattle.cep_infer.specs.Built.{AreBuilt, IsLeftBuilt}
 use Rattle.std.specs.Prelude.{MatchOption, option_to_list}
 use Rattle.cep_parse.specs.declared.raw.RawKind.{RawKind}
 use Rattle.cep_parse.specs.declared.raw.RawStart.{RawStart}
-use Rattle.cep_refusal.specs.declared.reason.Reason.TheVariants.{VarInContext}
+use Rattle.cep_refusal.specs.declared.reason.Reason.TheVariants.{VarInContext, Unknown, WrongKind, WrongArity}
 use Rattle.cep_refusal.specs.First.{wrong}
-use Rattle.cep_source.specs.Spaces.{context_named, Named, unlabelled_behind, rule_names_from, names_in}
-use Rattle.cep_faults.specs.Misnamed.Misnamed.{variable_in_state}
+use Rattle.cep_source.specs.Spaces.{context_named, Named, unlabelled_behind, rule_names_from, names_in, is_in, named, pred_named, con_named}
+use Rattle.cep_faults.specs.Misnamed.Misnamed.{variable_in_state, unknown, wrong_kind, wrong_arity, wrong_term_arity}
 use Rattle.cep_infer.specs.Resolved.{IsWellNamed}
 use Rattle.cep_infer.specs.States.{AreClosed}
-use Rattle.cep_base.proofs.Elements.{contains_none, contains_first, contains_behind, contains_cases, contains_left, contains_right, contains_flat, flat_cases, all_of, both_all, all_at}
+use Rattle.cep_base.proofs.Elements.{contains_none, contains_first, contains_behind, contains_cases, contains_left, contains_right, contains_either, contains_flat, contains_map, flat_cases, all_of, both_all, all_at}
 use Rattle.cep_rule.specs.declared.rule.Rule.{Rule}
+use Rattle.cep_source.specs.declared.items.ClauseRef.{ClauseRef}
 use Rattle.cep_source.specs.declared.items.RuleRef.{RuleRef}
-use Rattle.cep_source.specs.Kept.{rule_item}
+use Rattle.cep_source.specs.Kept.{rule_item, clause_item}
 use Rattle.std.proofs.lemmas.List.Elements.{filter-append, filter_agree}
 use Rattle.cep_infer.specs.Places.{unbound_at}
 use Rattle.cep_lex.specs.declared.token.Token.{Token}
 use Rattle.cep_parse.specs.declared.raw.RawItem.{RawItem}
 use Rattle.cep_parse.specs.Symbols.{symbols_of}
 use Rattle.cep_parse.specs.Grammar.{File}
-use Rattle.cep_parse.specs.Written.{IsNameAt, IsAtomOf, IsElemOf, IsRuleOf, IsStartOf, IsItemOf}
-use Rattle.cep_infer.specs.Shapes.{IsSource, AreFilled}
+use Rattle.cep_parse.specs.Written.{Fill, IsNameAt, IsAtomOf, IsElemOf, IsRuleOf, IsStartOf, IsItemOf, IsCount}
+use Rattle.cep_infer.specs.Shapes.{IsSource, IsFilled, AreFilled, AreCovered}
 use Rattle.cep_base.proofs.Lists.{all_mapped, all_flat, all_filtered as all_passing}
 use Rattle.cep_parse.specs.declared.raw.RawKind.TheVariants as kind
 use Rattle.cep_source.specs.declared.space.Space.TheVariants as space
 use Rattle.cep_parse.specs.declared.raw.RawElem.TheVariants as elem
 use Rattle.cep_parse.specs.declared.raw.RawStart.TheVariants as start
 use Rattle.cep_parse.specs.declared.raw.RawItem.TheVariants as item
-
--- The nodes of terms, and the blanks among nodes.
-
--- the nodes of terms
-abbrev pub nodes_at : List Site → List RawNode
-nodes_at sites = map (λ site. site.node) sites
+use Rattle.std.proofs.lemmas.Bool.{eqb-true, eqb-false}
+use Rattle.cep_source.specs.declared.space.Space.{Space}
 
 -- What is met is each variable once, with the type that is wanted where it occurs first.
 
@@ -158,7 +155,7 @@ all_found acc (w ∷ ws) are = cases (has_wanted acc w.name) refl (all_found acc
 
 -- ---- what is met of a scope
 
-module _ (source : Source) (atoms : List RawAtom) (variables : Variables) (met : AreMet source atoms none_met variables) where
+module _ (source : Source) (atoms : List RawAtom) (variables : Variables) (met : AreMet source atoms none_met variables) (covered : AreCovered source atoms) where
   abbrev all : List Wanted
   all = wanted_from source 0 (sites_of source atoms)
 
@@ -166,14 +163,10 @@ module _ (source : Source) (atoms : List RawAtom) (variables : Variables) (met :
   firsts = fold further [] all
 
   names_of_firsts : wanted_names_of firsts ≡ occurring (variables_of source atoms)
-  names_of_firsts =
-      met_names [] [] all (λ name. refl) ∙ ap (new_names []) (wanted_names source 0 (sites_of source atoms) ∙ ap (λ nodes. occurring (occurrences_from source 0 nodes)) met.covered)
-      ∙ sym (firsts_names [] (occurrences_from source 0 (raw_nodes atoms)))
+  names_of_firsts = cc (met_names [] [] all (λ name. refl), wanted_names source 0 (sites_of source atoms), covered, firsts_names [] (occurrences_from source 0 (raw_nodes atoms)))
 
   pub names_met : names_among variables.firsts ≡ names_of source atoms
-  names_met =
-      sym (map-map (λ (w : Wanted). w.name) (λ (e : List ℕ × Span). record { name = e.0; wants = said source e.1 }) variables.firsts)
-      ∙ ap wanted_names_of met.firsts ∙ names_of_firsts
+  names_met = grind (arith, map-map, wanted_names_of, names_of_firsts, variables.firsts, met.firsts)
 
   abbrev kind_of : Option (List ℕ) → ℕ
   kind_of type = number_of source space.Sorts (unwrap_or type [])
@@ -289,10 +282,10 @@ module _ (source : Source) (vars : List (List ℕ)) where
 
 -- a clause is built
 pub clause_built : (source : Source) (head : RawAtom) (goals : List RawAtom) (variables : Variables) (names : List (List ℕ)) (kinds : List ℕ) (behind : ℕ) (tree : AtomTree) (atoms : List AtomTree)
-    → AreMet source (head ∷ goals) none_met variables → names ≡ names_among variables.firsts → kinds ≡ kinds_met source variables.firsts
+    → AreMet source (head ∷ goals) none_met variables → AreCovered source (head ∷ goals) → names ≡ names_among variables.firsts → kinds ≡ kinds_met source variables.firsts
     → IsAtomBy source (names_among variables.firsts) 0 head tree → behind ≡ blanks_after 0 head.nodes → AreAtomsBy source (names_among variables.firsts) behind goals atoms
     → IsClauseBy source (record { head = head; goals = goals }) (record { vars = names; kinds = kinds; head = tree; goals = atoms })
-clause_built source head goals variables names kinds behind tree atoms met names_are kinds_are first blanks_are others = grind (arith, names_met source (head ∷ goals) variables met, kinds_are_met source (head ∷ goals) variables met)
+clause_built source head goals variables names kinds behind tree atoms met covered names_are kinds_are first blanks_are others = grind (arith, names_met source (head ∷ goals) variables met covered, kinds_are_met source (head ∷ goals) variables met covered)
 
 -- ---- what stands for each of some things, one after another
 
@@ -313,9 +306,12 @@ abbrev IsClosed : Head → Type 0
 IsClosed (var v) = ⊥
 IsClosed (con c args) = Unit {0}
 
-parts_all : (xs ys : List Head) → AllByRecursion IsClosed (xs ++ ys) → AllByRecursion IsClosed xs × AllByRecursion IsClosed ys
-parts_all [] ys all = (tt, all)
-parts_all (x ∷ xs) ys all = let rest = parts_all xs ys all.1 in ((all.0, rest.0), rest.1)
+pub parts_all : {X : Type 0} (P : X → Type 0) (xs ys : List X) → AllByRecursion P (xs ++ ys) → AllByRecursion P xs × AllByRecursion P ys
+parts_all P [] ys all = (tt, all)
+parts_all P (x ∷ xs) ys all = let rest = parts_all P xs ys all.1 in ((all.0, rest.0), rest.1)
+
+pub all_rest : {X : Type 0} (P : X → Type 0) (xs ys : List X) → AllByRecursion P (xs ++ ys) → AllByRecursion P ys
+all_rest P xs ys all = (parts_all P xs ys all).1
 
 -- where no node is a variable, the terms are ground
 mutual
@@ -325,7 +321,7 @@ mutual
 
   terms_ground : (ts : Trees) → AllByRecursion IsClosed (heads_among ts) → AreGround ts
   terms_ground no_trees all = tt
-  terms_ground (more_trees t rest) all = let parts = parts_all (heads_of t) (heads_among rest) all in (term_ground t parts.0, terms_ground rest parts.1)
+  terms_ground (more_trees t rest) all = let parts = parts_all IsClosed (heads_of t) (heads_among rest) all in (term_ground t parts.0, terms_ground rest parts.1)
 
 head_closed : (source : Source) (vars : List (List ℕ)) (blanks : ℕ) (shape : RawKind) (at : Span) (args : ℕ) → shape ≡ kind.App → IsClosed (head_at source vars blanks shape at args)
 head_closed source vars blanks shape at args is = grind arith
@@ -394,12 +390,12 @@ module _ (source : Source) where
 
 -- a rule is built
 pub rule_built : (source : Source) (item : RuleItem) (variables : Variables) (rule : Rule) (behind : ℕ) (left : LeftSide)
-    → AreMet source (rule_scope item) none_met variables → rule.vars ≡ names_among variables.firsts → rule.kinds ≡ kinds_met source variables.firsts
+    → AreMet source (rule_scope item) none_met variables → AreCovered source (rule_scope item) → rule.vars ≡ names_among variables.firsts → rule.kinds ≡ kinds_met source variables.firsts
     → rule.group ≡ group_of source item.home item.raw.left → rule.next ≡ next_of source item.home item.raw.right
     → IsLeftBuilt source (names_among variables.firsts) item.raw.left 0 behind (record { premises = []; backs = [] }) left → rule.premises ≡ left.premises → rule.backs ≡ left.backs
     → AreAtomsBy source (names_among variables.firsts) behind (atoms_of item.raw.right) rule.right
     → IsRuleBy source item rule
-rule_built source item variables rule behind left met vars_are kinds_are group_is next_is left_is premises_are backs_are right_is = grind (arith, names_met, kinds_are_met)
+rule_built source item variables rule behind left met covered vars_are kinds_are group_is next_is left_is premises_are backs_are right_is = grind (arith, names_met, kinds_are_met)
 
 -- each rule has a name
 names_count : (source : Source) (unlabelled : ℕ) (items : List RuleItem) → length (rule_names_from source unlabelled items) ≡ length items
@@ -580,3 +576,187 @@ atom_made law source is atom there = all_at (IsAtomOf is.tokens) (atoms_written 
 
 pub filled : MadeOfTokens → (source : Source) → IsSource source → AreFilled source
 filled law source is atom there = (atom_made law source is atom there).filled
+
+-- The nodes of an atom are its arguments: so many terms are still to come, and then none.
+
+-- some terms are the first of them and the others
+pub one_apart : (count more : ℕ) (nodes : List RawNode) → count ≢ 0 → Fill (count + more) nodes → Fill (suc (count - 1 + more)) nodes
+one_apart count more nodes some filled = let same : count + more ≡ suc (count - 1 + more) = omega arith in rw same at filled
+
+pub none_more : (count more : ℕ) (nodes : List RawNode) → count ≡ 0 → Fill (count + more) nodes → Fill more nodes
+none_more count more nodes none filled = let same : count + more ≡ more = omega arith in rw same at filled
+
+-- before the first node of an atom all terms are to come, and no other
+pub to_come : (count : ℕ) (nodes : List RawNode) → Fill count nodes → (more : ℕ) × Fill (count + more) nodes
+to_come count nodes filled = let same : count + 0 ≡ count = omega arith in (0, rw same filled)
+
+-- behind them no node is left
+pub none_left : (count : ℕ) (nodes left : List RawNode) → Fill count nodes → ((more : ℕ) → Fill (count + more) nodes → Fill more left) → left ≡ []
+none_left count nodes left filled read = let same : count + 0 ≡ count = omega arith in let rest : Fill 0 left = read 0 (rw same filled) in grind arith
+
+module _ (nodes : List RawNode) (at more : ℕ) (filled : Fill (suc more) (drop at nodes)) where
+  -- a term that is to come has a node
+  pub node_there : at < length nodes
+  node_there = grind (arith, drop_all)
+
+  -- behind a variable or a blank come the other terms
+  pub leaf_behind : (d : RawNode) → ((get_or nodes at d).kind ≡ kind.Var) ⊎ ((get_or nodes at d).kind ≡ kind.Blank) → Fill more (drop (at + 1) nodes)
+  leaf_behind d leaf = grind (arith, drop_more, node_there, filled, none_more)
+
+-- So it is with the atoms of a file, and with those of its parts.
+
+-- the atoms of a rule, of a clause and of a state are atoms of the file
+pub made_there : (source : Source) (rule : RuleItem) → Contains (rules_of source) rule → (raw : RawAtom) → Contains (atoms_of rule.raw.right) raw → Contains (made_atoms source) raw
+made_there source rule there raw inside = contains_flat (λ (one : RuleItem). atoms_of one.raw.right) (rules_of source) rule raw there inside
+
+pub rule_written : (source : Source) (rule : RuleItem) → Contains (rules_of source) rule → (raw : RawAtom) → Contains (rule_scope rule) raw → Contains (atoms_written source) raw
+rule_written source rule there raw inside =
+    ⊎_elim (λ left. contains_left (needed_atoms source) _ raw (contains_flat (λ (one : RuleItem). atoms_of one.raw.left) (rules_of source) rule raw there left))
+    (λ right. contains_right (needed_atoms source) _ raw (contains_left (made_atoms source) _ raw (made_there source rule there raw right))) (contains_either (atoms_of rule.raw.left) (atoms_of rule.raw.right) raw inside)
+
+pub clause_there : (source : Source) (clause : ClauseItem) → Contains (clauses_of source) clause → (raw : RawAtom) → Contains (clause_scope clause) raw → Contains (clause_atoms source) raw
+clause_there source clause there raw inside = contains_flat (λ (one : ClauseItem). one.head ∷ one.goals) (clauses_of source) clause raw there inside
+
+pub clause_written : (source : Source) (clause : ClauseItem) → Contains (clauses_of source) clause → (raw : RawAtom) → Contains (clause_scope clause) raw → Contains (atoms_written source) raw
+clause_written source clause there raw inside = contains_right (needed_atoms source) _ raw (contains_right (made_atoms source) _ raw (contains_left (clause_atoms source) _ raw (clause_there source clause there raw inside)))
+
+pub state_atom_here : (source : Source) (raw : RawAtom) → Contains (state_atoms source) raw → Contains (atoms_written source) raw
+state_atom_here source raw there = contains_right (needed_atoms source) _ raw (contains_right (made_atoms source) _ raw (contains_right (clause_atoms source) (state_atoms source) raw there))
+
+-- what is kept of one of the items is one of them
+pub kept_there : {X A : Type 0} (f : X → A) (refs : List X) (all : List A) (i : ℕ) (x : X) → map f refs ≡ all → i < length refs → x ≡ get_or refs i x → Contains all (f x)
+kept_there f refs all i x are within is = rw (← are) (contains_map f refs x (i, within, sym is))
+
+pub part_filled : {X : Type 0} (g : X → List RawAtom) (xs : List X) (i : ℕ) (x : X) → AllByRecursion IsFilled (flat_map g xs) → i < length xs → x ≡ get_or xs i x → AllByRecursion IsFilled (g x)
+part_filled g xs i x filled within is = all_of IsFilled (g x) (λ raw inside. all_at IsFilled (flat_map g xs) raw filled (contains_flat g xs x raw (i, within, sym is) inside))
+
+-- an atom of a list, and the atoms of an element of a side
+pub atom_filled : (raws : List RawAtom) (i : ℕ) (raw : RawAtom) → AllByRecursion IsFilled raws → i < length raws → raw ≡ get_or raws i raw → IsFilled raw
+atom_filled raws i raw filled within is = all_at IsFilled raws raw filled (i, within, sym is)
+
+pub elem_filled : (side : List RawElem) (i : ℕ) (elem : RawElem) → AllByRecursion IsFilled (atoms_of side) → i < length side → elem ≡ get_or side i elem → AllByRecursion IsFilled (atoms_in elem)
+elem_filled side i elem filled within is = part_filled atoms_in side i elem filled within is
+
+module _ (source : Source) where
+  -- an atom in braces, or what it stands for
+  pub braces_filled : (raws : List RawAtom) (i : ℕ) (raw : RawAtom) (stands : Bool) (listed : List RawAtom) → AllByRecursion IsFilled (start_atoms source (start.Listed raws)) → i < length raws → raw ≡ get_or raws i raw
+      → stands ≡ stands_for_context source raw → listed ≡ (if stands then listed_in source (said source raw.name) else raw ∷ []) → AllByRecursion IsFilled listed
+  braces_filled raws i raw stands listed filled within is stands_is listed_are = grind (arith, part_filled, filled)
+
+  module _ (filled : AreFilled source) where
+    among : (raws : List RawAtom) → ((raw : RawAtom) → Contains raws raw → Contains (atoms_written source) raw) → AllByRecursion IsFilled raws
+    among raws written = all_of IsFilled raws (λ raw inside. filled raw (written raw inside))
+
+    pub rule_filled : (refs : List RuleRef) (i : ℕ) (ref : RuleRef) → map rule_item refs ≡ rules_of source → i < length refs → ref ≡ get_or refs i ref → AllByRecursion IsFilled (rule_scope (rule_item ref))
+    rule_filled refs i ref are within is = among (rule_scope (rule_item ref)) (rule_written source (rule_item ref) (kept_there rule_item refs _ i ref are within is))
+
+    pub clause_filled : (refs : List ClauseRef) (i : ℕ) (ref : ClauseRef) → map clause_item refs ≡ clauses_of source → i < length refs → ref ≡ get_or refs i ref → AllByRecursion IsFilled (clause_scope (clause_item ref))
+    clause_filled refs i ref are within is = among (clause_scope (clause_item ref)) (clause_written source (clause_item ref) (kept_there clause_item refs _ i ref are within is))
+
+    pub start_filled : (trace : TraceItem) → Contains (traces_of source) trace → AllByRecursion IsFilled (start_atoms source trace.start)
+    start_filled trace there = among (start_atoms source trace.start) (λ raw listed. state_atom_here source raw (state_written source trace raw there listed))
+
+-- In a text without wrong names each node of a rule or clause is a term of which a type is wanted.
+
+-- something is found
+pub record IsFound {Y : Type 0} (found : Option Y) : Type 0 where
+  pub it : Y
+  pub found_is : found ≡ Some it
+
+-- where something passes, something is found
+pub any_found : {X Y : Type 0} (g : Y → X) (p : X → Bool) (ys : List Y) → list_any p (map g ys) ≡ true → IsFound (find (λ z. p (g z)) ys)
+any_found g p [] any = absurd cc
+any_found g p (z ∷ ys) any = let later : list_any p (map g ys) ≡ true → IsFound (find (λ w. p (g w)) ys) = λ passes. any_found g p ys passes in grind arith
+
+-- what is not otherwise is so
+pub not_otherwise : (b : Bool) → (b ≡ false → ⊥) → b ≡ true
+not_otherwise b never = grind arith
+
+not_other : (b : Bool) → (b ≡ true → ⊥) → b ≡ false
+not_other b never = grind arith
+
+pub same_number : (n m : ℕ) → ((n ≢ m) → ⊥) → n ≡ m
+same_number n m never = grind (arith, eqb-true, eqb-false)
+
+-- a name that is used is in its space, since else no space would have it, or another
+pub known : (source : Source) (space : Space) (name : Span) → IsWellNamed source → Contains (uses_in source space) name → is_in source space (said source name) ≡ true
+known source space name clean used = not_otherwise _ (λ outside. clean (wrong Unknown name.from) (unknown space name used (λ other.
+    not_other _ (λ there. clean (wrong WrongKind name.from) (wrong_kind space other name used outside there refl))) refl))
+
+-- The predicate of an atom is declared, with as many arguments.
+pub record IsPredKnown (source : Source) (raw : RawAtom) : Type 0 where
+  pub pred : PredItem
+  pub found : pred_named source (said source raw.name) ≡ Some pred
+  pub count : raw.args ≡ length pred.args
+
+pub pred_known : (source : Source) (raw : RawAtom) → IsWellNamed source → Contains (atoms_written source) raw → IsPredKnown source raw
+pred_known source raw clean there =
+    let used = contains_map (λ (atom : RawAtom). atom.name) (atoms_written source) raw there in
+    let found = any_found (λ (pred : PredItem). named source pred.name) (λ other. bytes_eq other.name (said source raw.name)) (preds_of source) (known source space.Predicates raw.name clean used) in
+    record { pred = found.it; found = found.found_is; count = same_number _ _ (λ differ. clean (wrong WrongArity raw.name.from) (wrong_arity raw found.it there found.found_is differ refl)) }
+
+-- The constructor of a node is declared, with as many arguments.
+pub record IsConKnown (source : Source) (at : Span) (args : ℕ) : Type 0 where
+  pub con : ConItem
+  pub found : con_named source (said source at) ≡ Some con
+  pub count : args ≡ length con.args
+
+pub con_known : (source : Source) (raw : RawAtom) → IsWellNamed source → Contains (atoms_written source) raw → (one : RawNode) → Contains raw.nodes one → one.kind ≡ kind.App → IsConKnown source one.at one.args
+con_known source raw clean there one inside app =
+    let written = contains_flat (λ (atom : RawAtom). atom.nodes) (atoms_written source) raw one there inside in
+    let used = contains_flat (λ (other : RawNode). applied_at other.kind other.at) (raw_nodes (atoms_written source)) one one.at written (subst (λ shape. Contains (applied_at shape one.at) one.at) (sym app) (contains_first one.at [])) in
+    let found = any_found (λ (con : ConItem). named source con.name) (λ other. bytes_eq other.name (said source one.at)) (cons_of source) (known source space.Constructors one.at clean used) in
+    record { con = found.it; found = found.found_is; count = same_number _ _ (λ differ. clean (wrong WrongArity one.at.from) (wrong_term_arity one found.it written app found.found_is differ refl)) }
+
+-- the types that a predicate, and a constructor, wants of its arguments
+pub pred_types_are : (source : Source) (name : List ℕ) (pred : PredItem) → pred_named source name ≡ Some pred → pred_types source name ≡ map (said source) pred.args
+pred_types_are source name pred found = ap (λ (is : Option PredItem). map (said source) (unwrap_or (option_map (λ (one : PredItem). one.args) is) [])) found
+
+pub con_types_are : (source : Source) (at : Span) (item_ : ConItem) → con_named source (said source at) ≡ Some item_ → node_types source kind.App at ≡ map (said source) item_.args
+con_types_are source at item_ found = ap (λ (is : Option ConItem). map (said source) (unwrap_or (option_map (λ (one : ConItem). one.args) is) [])) found
+
+-- a constructor wants as many types as there are arguments, and a variable none
+types_count : (source : Source) (shape : RawKind) (at : Span) (args : ℕ) → IsCount shape args → (shape ≡ kind.App → IsConKnown source at args) → length (node_types source shape at) ≡ args
+types_count source shape at args count known = grind (arith, con_types_are, length-map)
+
+-- each node of terms that are so many stands at a place of its own
+pub sites_whole : (source : Source) (types : List (List ℕ)) (nodes : List RawNode) → Fill (length types) nodes → ((one : RawNode) → Contains nodes one → one.kind ≡ kind.App → IsConKnown source one.at one.args) → nodes_at (sites_from source types nodes) ≡ nodes
+sites_whole source (wants ∷ next) (first ∷ nodes) fill known =
+    let count = types_count source first.kind first.at first.args fill.0 (known first (contains_first first nodes)) in
+    let size : first.args + length next ≡ length (node_types source first.kind first.at ++ next) = omega (arith, count, length-append (node_types source first.kind first.at) next) in
+    ap (λ ns. first ∷ ns) (sites_whole source (node_types source first.kind first.at ++ next) nodes (rw size at fill.1) (λ one there. known one (contains_behind first nodes one there)))
+sites_whole source types nodes fill known = grind arith
+
+-- An atom stands in the file, and its nodes are its arguments.
+pub record IsHere (source : Source) (raw : RawAtom) : Type 0 where
+  pub there : Contains (atoms_written source) raw
+  pub filled : IsFilled raw
+
+module _ (source : Source) (names : IsWellNamed source) where
+  -- as many types are wanted as there are arguments
+  pub here_count : (raw : RawAtom) → IsHere source raw → raw.args ≡ length (pred_types source (said source raw.name))
+  here_count raw here = grind (arith, pred_known source raw names here.there, length-map, pred_types_are, raw.name)
+
+  -- each node of the atom is a term of it
+  pub here_nodes : (raw : RawAtom) → IsHere source raw → nodes_at (sites_in source raw) ≡ raw.nodes
+  here_nodes raw here = grind (arith, sites_whole, here_count raw here, con_known source raw names here.there, raw.name, raw.nodes, here.filled)
+
+  pub scope_nodes : (atoms : List RawAtom) → ((raw : RawAtom) → Contains atoms raw → IsHere source raw) → nodes_at (sites_of source atoms) ≡ raw_nodes atoms
+  scope_nodes [] here = refl
+  scope_nodes (raw ∷ atoms) here = rw (map-append (λ (site : Site). site.node) (sites_in source raw) (sites_of source atoms), here_nodes raw (here raw (contains_first raw atoms)), scope_nodes atoms (λ other there. here other (contains_behind raw atoms other there)))
+
+  module _ (filled : AreFilled source) where
+    covered_among : (raws : List RawAtom) → ((raw : RawAtom) → Contains raws raw → Contains (atoms_written source) raw) → AreCovered source raws
+    covered_among raws written = scope_nodes raws (λ raw inside. let there = written raw inside in record { there = there; filled = filled raw there })
+
+    -- each node of a rule is a term of it, and each node of a clause
+    pub rule_covered : (refs : List RuleRef) (i : ℕ) (ref : RuleRef) → map rule_item refs ≡ rules_of source → i < length refs → ref ≡ get_or refs i ref → AreCovered source (rule_scope (rule_item ref))
+    rule_covered refs i ref are within is = covered_among (rule_scope (rule_item ref)) (rule_written source (rule_item ref) (kept_there rule_item refs _ i ref are within is))
+
+    pub clause_covered : (refs : List ClauseRef) (i : ℕ) (ref : ClauseRef) → map clause_item refs ≡ clauses_of source → i < length refs → ref ≡ get_or refs i ref → AreCovered source (clause_scope (clause_item ref))
+    clause_covered refs i ref are within is = covered_among (clause_scope (clause_item ref)) (clause_written source (clause_item ref) (kept_there clause_item refs _ i ref are within is))
+
+-- what a reader of rules asks, and one of clauses
+pub ruleset rule_terms = (rule_filled, rule_covered)
+
+pub ruleset clause_terms = (clause_filled, clause_covered)

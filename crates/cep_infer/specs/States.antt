@@ -1,4 +1,3 @@
--- Private.
 -- Atoms without variables.
 use Rattle.std.specs.Prelude.{◌≡◌, List}
 use Rattle.std.specs.List.{AllByRecursion}

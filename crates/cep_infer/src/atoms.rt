@@ -1,9 +1,11 @@
 // Atoms of one side, one clause or one state, one after another.
 ghost use Rattle.std.specs.Prelude.{◌≡◌, ◌∷◌, [], IfOk, OnOk};
+ghost use Rattle.std.specs.List.{AllByRecursion};
 ghost use Rattle.cep_parse.specs.Raw.{atoms_of};
 ghost use Rattle.cep_base.specs.FirstNames.{names_among};
 ghost use Rattle.cep_infer.specs.Heads.{AreAtomsBy};
 ghost use Rattle.cep_infer.specs.Built.{AreBuilt};
+ghost use Rattle.cep_infer.specs.Shapes.{IsFilled};
 
 use crate::terms::read_atom;
 use cep_parse::{RawAtom, RawElem};
@@ -19,6 +21,7 @@ pub(crate) fn push_atom(
     blanks: &mut u64,
     atoms: &mut AtomList,
 ) -> Result<(), AllocError>
+    requires { IsFilled raw.now }
     ensures { OnOk result (AreBuilt source.now (names_among variables.now.firsts)
         (raw.now ∷ []) blanks.old blanks.new atoms.old atoms.new) }
 {
@@ -27,6 +30,7 @@ pub(crate) fn push_atom(
 }
 
 // Adds the atoms that are written.
+#[tactic(auto, using(crate::proofs::RulesInTurn::atom_filled))]
 pub(crate) fn push_atoms(
     source: &Source,
     variables: &Variables,
@@ -34,6 +38,7 @@ pub(crate) fn push_atoms(
     blanks: &mut u64,
     atoms: &mut AtomList,
 ) -> Result<(), AllocError>
+    requires { AllByRecursion IsFilled raws.now }
     ensures { OnOk result (AreBuilt source.now
         (names_among variables.now.firsts) raws.now blanks.old blanks.new atoms.old atoms.new) }
 {
@@ -50,6 +55,7 @@ pub(crate) fn read_atoms(
     raws: &[RawAtom],
     blanks: u64,
 ) -> Result<AtomList, AllocError>
+    requires { AllByRecursion IsFilled raws.now }
     ensures { IfOk result (λ atoms.
         AreAtomsBy source.now (names_among variables.now.firsts) blanks raws.now atoms) }
 {
@@ -60,12 +66,14 @@ pub(crate) fn read_atoms(
 }
 
 // The atoms of a side, before which so many blanks stand.
+#[tactic(auto, using(crate::proofs::RulesInTurn::elem_filled))]
 pub(crate) fn read_side(
     source: &Source,
     variables: &Variables,
     side: &[RawElem],
     blanks: u64,
 ) -> Result<AtomList, AllocError>
+    requires { AllByRecursion IsFilled (atoms_of side.now) }
     ensures { IfOk result (λ atoms.
         AreAtomsBy source.now (names_among variables.now.firsts) blanks (atoms_of side.now) atoms) }
 {

@@ -1,10 +1,13 @@
 // The clauses of a text.
 ghost use Rattle.std.specs.Prelude.{◌∷◌, IfOk};
-ghost use Rattle.std.specs.List.{AllZip};
+ghost use Rattle.std.specs.List.{AllByRecursion, AllZip};
 ghost use Rattle.cep_rule.specs.Patterns.{clause_of};
 ghost use Rattle.cep_source.specs.Items.{clauses_of};
 ghost use Rattle.cep_source.specs.Kept.{clause_item};
+ghost use Rattle.cep_types.specs.Sites.{clause_scope};
 ghost use Rattle.cep_infer.specs.Meaning.{IsClauseBy};
+ghost use Rattle.cep_infer.specs.Shapes.{IsFilled, AreFilled, AreCovered};
+ghost use Rattle.cep_infer.specs.Resolved.{IsWellNamed};
 
 use crate::atoms::read_atoms;
 use crate::terms::read_atom;
@@ -14,6 +17,8 @@ use cep_types::{clause_variables, variable_kinds};
 use std::alloc::AllocError;
 
 fn clause(source: &Source, item: &ClauseRef) -> Result<Clause, AllocError>
+    requires filled { AllByRecursion IsFilled (clause_scope (clause_item item.now)) }
+    requires covered { AreCovered source.now (clause_scope (clause_item item.now)) }
     ensures { IfOk result (λ clause.
         IsClauseBy source.now (clause_item item.now) (clause_of clause)) }
 {
@@ -28,7 +33,10 @@ fn clause(source: &Source, item: &ClauseRef) -> Result<Clause, AllocError>
 }
 
 // The clauses in written order, those with a label too.
+#[tactic(auto, using(crate::proofs::RulesInTurn::clause_terms))]
 pub(crate) fn read_clauses(source: &Source) -> Result<Clauses, AllocError>
+    requires named { IsWellNamed source.now }
+    requires filled { AreFilled source.now }
     ensures { IfOk result (λ clauses.
         AllZip (IsClauseBy source.now) (clauses_of source.now) clauses) }
 {

@@ -1,11 +1,14 @@
 // The left sides of rules.
 ghost use Rattle.std.specs.Prelude.{◌≡◌, ◌||◌, ◌∷◌, [], slice_get, IfOk, OnOk};
+ghost use Rattle.std.specs.List.{AllByRecursion};
 ghost use Rattle.std.specs.Option.{option_map};
+ghost use Rattle.cep_parse.specs.Raw.{atoms_in, atoms_of};
 ghost use Rattle.cep_term.specs.Tree.{atom_of};
 ghost use Rattle.cep_source.specs.Items.{preds_of};
 ghost use Rattle.cep_base.specs.FirstNames.{names_among};
 ghost use Rattle.cep_infer.specs.Meaning.{is_back, is_fact_by};
 ghost use Rattle.cep_infer.specs.Built.{IsLeftBuilt};
+ghost use Rattle.cep_infer.specs.Shapes.{IsFilled};
 
 use crate::terms::read_atom;
 use cep_base::PredKind;
@@ -59,6 +62,7 @@ fn push_premise(
     blanks: &mut u64,
     left: &mut LeftSide,
 ) -> Result<(), AllocError>
+    requires { AllByRecursion IsFilled (atoms_in elem.now) }
     ensures { OnOk result (IsLeftBuilt source.now (names_among variables.now.firsts)
         (elem.now ∷ []) blanks.old blanks.new left.old left.new) }
 {
@@ -74,12 +78,14 @@ fn push_premise(
 }
 
 // The premises of a left side, before which so many blanks stand.
+#[tactic(auto, using(crate::proofs::RulesInTurn::elem_filled))]
 pub(crate) fn read_left(
     source: &Source,
     variables: &Variables,
     side: &[RawElem],
     blanks: &mut u64,
 ) -> Result<LeftSide, AllocError>
+    requires { AllByRecursion IsFilled (atoms_of side.now) }
     ensures { IfOk result (IsLeftBuilt source.now
         (names_among variables.now.firsts) side.now blanks.old blanks.new
         (record { premises = []; backs = [] })) }

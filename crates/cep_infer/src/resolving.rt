@@ -4,12 +4,13 @@ ghost use Rattle.std.specs.Option.{option_and_then};
 ghost use Rattle.cep_source.specs.Items.{traces_of};
 ghost use Rattle.cep_source.specs.Kept.{trace_item};
 ghost use Rattle.cep_source.specs.Starts.{turns_said};
-ghost use Rattle.cep_infer.specs.Shapes.{IsSource};
+ghost use Rattle.cep_infer.specs.Shapes.{IsSource, AreFilled};
 ghost use Rattle.cep_infer.specs.Meaning.{AreParts};
 ghost use Rattle.cep_infer.specs.Resolved.{IsWellNamed, IsFirstFault, IsResolved, IsSound};
 
 use crate::clauses::read_clauses;
 use crate::draft::Draft;
+use crate::laws::atoms_are_made_of_tokens;
 use crate::places::rule_places;
 use crate::rules::read_rules;
 use crate::signature::{read_signature, read_stages};
@@ -33,6 +34,7 @@ fn turns(source: &Source, limit: Option<Span>) -> Option<u32>
 // little to give up where one fails.
 fn parts_from(source: &Source, trace: &TraceRef) -> Result<Parts, AllocError>
     requires named { IsWellNamed source.now }
+    requires filled { AreFilled source.now }
     requires first { slice_get (traces_of source.now) 0 ≡ Some (trace_item trace.now) }
     ensures { IfOk result (AreParts source.now) }
 {
@@ -49,7 +51,8 @@ fn parts_from(source: &Source, trace: &TraceRef) -> Result<Parts, AllocError>
 
 // The draft of what a text declares, or the first fault of its names or types.
 fn drafted_from(source: &Source) -> Result<Result<Draft, Fault>, AllocError>
-    requires { length source.now.text ≤ MOST_TEXT }
+    requires short { length source.now.text ≤ MOST_TEXT }
+    requires filled { AreFilled source.now }
     ensures { IfOk result (λ answer.
         MatchResult answer (IsSound source.now) (IsFirstFault source.now)) }
 {
@@ -72,7 +75,8 @@ fn drafted_from(source: &Source) -> Result<Result<Draft, Fault>, AllocError>
 
 // The draft of a text, or its first fault.
 fn drafted(alloc: Global, text: &[u8], file: &RawFile) -> Result<Result<Draft, Fault>, AllocError>
-    requires { length text.now ≤ MOST_TEXT }
+    requires short { length text.now ≤ MOST_TEXT }
+    requires filled { AreFilled (record { text = text.now; file = file.now }) }
     ensures { IfOk result (λ answer.
         MatchResult answer (IsSound (record { text = text.now; file = file.now }))
         (IsFirstFault (record { text = text.now; file = file.now }))) }
@@ -96,6 +100,7 @@ pub fn resolve(
     requires source { IsSource (record { text = text.now; file = file.now }) }
     ensures { IfOk result (IsResolved (record { text = text.now; file = file.now })) }
 {
+    atoms_are_made_of_tokens();
     let drafted = drafted(alloc, text, file)?;
     Ok(drafted.map_err(|fault| Refusal::of(text, fault)))
 }

@@ -1,6 +1,7 @@
 // The rules of a text.
-ghost use Rattle.std.specs.Prelude.{◌≡◌, map, IfOk};
-ghost use Rattle.std.specs.List.{AllZip};
+ghost use Rattle.std.specs.Prelude.{◌≡◌, ◌++◌, map, IfOk};
+ghost use Rattle.std.specs.List.{AllByRecursion, AllZip};
+ghost use Rattle.cep_parse.specs.Raw.{atoms_of};
 ghost use Rattle.cep_source.specs.declared.space.Space.TheVariants as space;
 ghost use Rattle.cep_source.specs.Items.{rules_of};
 ghost use Rattle.cep_source.specs.Spaces.{names_in};
@@ -11,6 +12,8 @@ ghost use Rattle.cep_types.specs.Sites.{rule_scope};
 ghost use Rattle.cep_base.specs.FirstNames.{names_among};
 ghost use Rattle.cep_infer.specs.Built.{AreSidesBuilt};
 ghost use Rattle.cep_infer.specs.Meaning.{IsRuleBy, stage_named, group_of, next_of};
+ghost use Rattle.cep_infer.specs.Shapes.{IsFilled, AreFilled, AreCovered};
+ghost use Rattle.cep_infer.specs.Resolved.{IsWellNamed};
 
 use crate::atoms::read_side;
 use crate::left::{LeftSide, read_left};
@@ -66,7 +69,9 @@ struct Sides {
     right: AtomList,
 }
 
+#[tactic(auto, using(crate::proofs::RulesInTurn::parts_all, crate::proofs::RulesInTurn::all_rest))]
 fn read_sides(source: &Source, variables: &Variables, rule: &RawRule) -> Result<Sides, AllocError>
+    requires { AllByRecursion IsFilled (atoms_of rule.now.left ++ atoms_of rule.now.right) }
     ensures { IfOk result (λ sides. AreSidesBuilt source.now
         (names_among variables.now.firsts) rule.now sides) }
 {
@@ -85,7 +90,9 @@ fn rule_over(
     name: &[u8],
     item: &RuleRef,
 ) -> Result<Rule, AllocError>
-    requires { AreMet source.now (rule_scope (rule_item item.now)) none_met variables.now }
+    requires met { AreMet source.now (rule_scope (rule_item item.now)) none_met variables.now }
+    requires filled { AllByRecursion IsFilled (rule_scope (rule_item item.now)) }
+    requires covered { AreCovered source.now (rule_scope (rule_item item.now)) }
     ensures rule { IfOk result (λ rule. IsRuleBy source.now (rule_item item.now) rule) }
     ensures name { IfOk result (λ rule. rule.name ≡ name.now) }
 {
@@ -108,6 +115,8 @@ fn rule_over(
 }
 
 fn rule(source: &Source, name: &[u8], item: &RuleRef) -> Result<Rule, AllocError>
+    requires filled { AllByRecursion IsFilled (rule_scope (rule_item item.now)) }
+    requires covered { AreCovered source.now (rule_scope (rule_item item.now)) }
     ensures rule { IfOk result (λ rule. IsRuleBy source.now (rule_item item.now) rule) }
     ensures name { IfOk result (λ rule. rule.name ≡ name.now) }
 {
@@ -116,7 +125,10 @@ fn rule(source: &Source, name: &[u8], item: &RuleRef) -> Result<Rule, AllocError
 }
 
 // The rules in written order.
+#[tactic(auto, using(crate::proofs::RulesInTurn::rule_terms))]
 pub(crate) fn read_rules(source: &Source) -> Result<Rules, AllocError>
+    requires named { IsWellNamed source.now }
+    requires filled { AreFilled source.now }
     ensures rules { IfOk result (λ rules.
         AllZip (IsRuleBy source.now) (rules_of source.now) rules) }
     ensures names { IfOk result (λ rules. map (λ rule. rule.name) rules

@@ -12,6 +12,7 @@ ghost use Rattle.cep_base.specs.FirstNames.{names_among};
 ghost use Rattle.cep_infer.specs.Heads.{AreAtomsBy};
 ghost use Rattle.cep_infer.specs.Meaning.{IsStartBy, is_fact_by};
 ghost use Rattle.cep_infer.specs.Resolved.{IsWellNamed};
+ghost use Rattle.cep_infer.specs.Shapes.{IsFilled, AreFilled};
 
 use crate::atoms::{push_atom, push_atoms, read_atoms};
 use crate::left::is_fact;
@@ -24,6 +25,7 @@ use std::alloc::{AllocError, Global};
 
 // The atoms in braces, and those of the contexts for which they stand, each a copy.
 fn read_listed(source: &Source, none: &Variables, raws: &[RawAtom]) -> Result<AtomList, AllocError>
+    requires { AllByRecursion IsFilled (start_atoms source.now (start.Listed raws.now)) }
     ensures { IfOk result (λ atoms.
         AreAtomsBy source.now (names_among none.now.firsts) 0
         (start_atoms source.now (start.Listed raws.now)) atoms) }
@@ -43,6 +45,7 @@ fn read_listed(source: &Source, none: &Variables, raws: &[RawAtom]) -> Result<At
 
 // The atoms of a start state, each a copy. They have no variables.
 fn start_atoms(source: &Source, start: &RawStart) -> Result<AtomList, AllocError>
+    requires { AllByRecursion IsFilled (start_atoms source.now start.now) }
     ensures { IfOk result (λ atoms.
         AreAtomsBy source.now [] 0 (start_atoms source.now start.now) atoms) }
 {
@@ -56,6 +59,7 @@ fn start_atoms(source: &Source, start: &RawStart) -> Result<AtomList, AllocError
 // The start state of a trace.
 pub(crate) fn read_start(source: &Source, trace: &TraceRef) -> Result<Bag, AllocError>
     requires named { IsWellNamed source.now }
+    requires filled { AreFilled source.now }
     requires there { Contains (traces_of source.now) (trace_item trace.now) }
     ensures { IfOk result (λ start. IsStartBy source.now (trace_item trace.now) start) }
 {

@@ -1,11 +1,13 @@
 // From the nodes of an atom, which stand in prefix order, to its tree.
-ghost use Rattle.std.specs.Prelude.{◌≡◌, ◌++◌, ◌≤◌, ◌<◌, length, drop, IfOk, OnOk};
+ghost use Rattle.std.specs.Prelude.{ℕ, suc, ◌≡◌, ◌+◌, ◌++◌, ◌≤◌, ◌<◌, drop, IfOk, OnOk};
+ghost use Rattle.cep_parse.specs.Written.{Fill};
 ghost use Rattle.cep_term.specs.Tree.{atom_of, tree_of, trees_of};
 ghost use Rattle.cep_source.specs.Kept.{atom_at};
 ghost use Rattle.cep_source.specs.Variables.{blanks_after};
 ghost use Rattle.cep_base.specs.FirstNames.{names_among};
 ghost use Rattle.cep_types.specs.Heads.{heads_from};
 ghost use Rattle.cep_infer.specs.Heads.{IsAtomBy, heads_of, heads_among, argument_count};
+ghost use Rattle.cep_infer.specs.Shapes.{IsFilled};
 
 use cep_parse::{RawKind, RawNode};
 use cep_source::{AtomRef, Source, Space, Variables, blanks_behind};
@@ -21,14 +23,16 @@ pub(crate) struct Cursor {
     pub blanks: u64,
 }
 
-// The next term.
+// The next term, where at least one is still to come.
 #[cycle(terms)]
+#[tactic(auto, using(crate::proofs::RulesInTurn::leaf_behind))]
 fn read_term(
     source: &Source,
     variables: &Variables,
     nodes: &[RawNode],
     cursor: &mut Cursor,
 ) -> Result<Term, AllocError>
+    requires { (more : ℕ) × Fill (suc more) (drop cursor.old.at nodes.now) }
     ensures heads { IfOk result (λ term.
         heads_from source.now (names_among variables.now.firsts) cursor.old.blanks
         (drop cursor.old.at nodes.now)
@@ -37,11 +41,12 @@ fn read_term(
         (drop cursor.new.at nodes.now)) }
     ensures blanks { OnOk result (blanks_after cursor.old.blanks (drop cursor.old.at nodes.now)
         ≡ blanks_after cursor.new.blanks (drop cursor.new.at nodes.now)) }
+    ensures filled { OnOk result ((more : ℕ)
+        → Fill (suc more) (drop cursor.old.at nodes.now)
+        → Fill more (drop cursor.new.at nodes.now)) }
     ensures further { OnOk result (cursor.old.at < cursor.new.at) }
-    ensures within { OnOk result (cursor.new.at ≤ length nodes.now) }
 {
-    // In a text without wrong names the nodes do not run out.
-    let node = nodes.get(cursor.at).ok_or(AllocError)?;
+    let node = &nodes[cursor.at];
     let number = head(source, variables, cursor.blanks, node)?;
     cursor.blanks = blanks_behind(cursor.blanks, node.kind)?;
     cursor.at += 1;
@@ -54,8 +59,9 @@ fn read_term(
     }
 }
 
-// So many terms.
+// So many terms, where at least as many are still to come.
 #[cycle(terms)]
+#[tactic(auto, using(crate::proofs::RulesInTurn::none_more, crate::proofs::RulesInTurn::one_apart))]
 fn read_args(
     source: &Source,
     variables: &Variables,
@@ -63,6 +69,7 @@ fn read_args(
     cursor: &mut Cursor,
     count: u32,
 ) -> Result<Args, AllocError>
+    requires { (more : ℕ) × Fill (count + more) (drop cursor.old.at nodes.now) }
     ensures heads { IfOk result (λ args.
         heads_from source.now (names_among variables.now.firsts) cursor.old.blanks
         (drop cursor.old.at nodes.now)
@@ -72,9 +79,10 @@ fn read_args(
     ensures count { IfOk result (λ args. argument_count (trees_of args) ≡ count) }
     ensures blanks { OnOk result (blanks_after cursor.old.blanks (drop cursor.old.at nodes.now)
         ≡ blanks_after cursor.new.blanks (drop cursor.new.at nodes.now)) }
+    ensures filled { OnOk result ((more : ℕ)
+        → Fill (count + more) (drop cursor.old.at nodes.now)
+        → Fill more (drop cursor.new.at nodes.now)) }
     ensures further { OnOk result (cursor.old.at ≤ cursor.new.at) }
-    ensures within { cursor.old.at ≤ length nodes.now
-        → OnOk result (cursor.new.at ≤ length nodes.now) }
 {
     if count == 0 {
         return Ok(Args::Nil);
@@ -85,12 +93,14 @@ fn read_args(
 }
 
 // The atom that is written, where so many blanks stand before it.
+#[tactic(auto, using(crate::proofs::RulesInTurn::to_come))]
 pub(crate) fn read_atom(
     source: &Source,
     variables: &Variables,
     blanks: &mut u64,
     raw: AtomRef,
 ) -> Result<Atom, AllocError>
+    requires { IsFilled (atom_at raw) }
     ensures atom { IfOk result (λ atom.
         IsAtomBy source.now (names_among variables.now.firsts) blanks.old (atom_at raw.entry)
         (atom_of atom)) }
@@ -102,10 +112,6 @@ pub(crate) fn read_atom(
         blanks: *blanks,
     };
     let args = read_args(source, variables, raw.nodes, &mut cursor, raw.args)?;
-    if cursor.at < raw.nodes.len() {
-        // In a text without wrong names no node is left.
-        return Err(AllocError);
-    }
     *blanks = cursor.blanks;
     Ok(Atom { pred, args })
 }

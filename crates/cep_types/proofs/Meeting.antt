@@ -11,7 +11,7 @@ use Rattle.cep_parse.specs.declared.raw.RawNode.{RawNode}
 use Rattle.cep_parse.specs.declared.raw.RawAtom.{RawAtom}
 use Rattle.cep_source.specs.Items.{Source, said, ConItem, ContextItem, TraceItem, rules_of, clauses_of, contexts_of, traces_of}
 use Rattle.cep_source.specs.Variables.{occurrence_at, blanks_behind, blanks_after}
-use Rattle.cep_types.specs.Sites.{Site, Wanted, sites_from, sites_in, wanted_from, sites_of, type_of, node_types, rule_scope, clause_scope, IsScope, Mistyped}
+use Rattle.cep_types.specs.Sites.{Site, Wanted, pred_types, sites_from, sites_in, wanted_from, sites_of, type_of, node_types, rule_scope, clause_scope, IsScope, Mistyped}
 use Rattle.cep_types.specs.Met.{wanted_in, further, AreMet, type_met, is_variable_or_blank}
 use Rattle.cep_source.specs.declared.variables.Variables.{Variables}
 use Rattle.cep_base.specs.FirstNames.{has_name, added, under_name}
@@ -57,38 +57,34 @@ module _ (source : Source) where
   met_blanks : (old : Variables) (kind : RawKind) (at wants : Span) → (met_site source old kind at wants).blanks ≡ blanks_behind old.blanks kind
   met_blanks old kind at wants = grind arith
 
--- From the start so much was met; the rest of the nodes are still to be met, where the next terms are to be of these types.
-pub record IsMeeting (source : Source) (sites : List Site) (nodes : List RawNode) (start now : Variables) (next : List (List ℕ)) (rest : List RawNode) : Type 0 where
-  pub firsts : fold further (wanted_in source start.firsts) (wanted_from source start.blanks sites) ≡ fold further (wanted_in source now.firsts) (wanted_from source now.blanks (sites_from source next rest))
-  pub blanks : blanks_after start.blanks nodes ≡ blanks_after now.blanks rest
-  pub covered : nodes_at (sites_from source next rest) ≡ rest → nodes_at sites ≡ nodes
+-- From the start so much was met, and these are still to be met.
+pub record IsMeeting (source : Source) (sites : List Site) (start now : Variables) (left : List Site) : Type 0 where
+  pub firsts : fold further (wanted_in source start.firsts) (wanted_from source start.blanks sites) ≡ fold further (wanted_in source now.firsts) (wanted_from source now.blanks left)
+  pub blanks : blanks_after start.blanks (nodes_at sites) ≡ blanks_after now.blanks (nodes_at left)
 
-pub meeting_goes_on : (source : Source) (sites : List Site) (nodes : List RawNode) (start old new : Variables) (next later : List (List ℕ)) (node : RawNode) (rest : List RawNode) (wants : Span)
-    → sites_from source next (node ∷ rest) ≡ record { node = node; wants = said source wants } ∷ sites_from source later rest
-    → new ≡ met_site source old node.kind node.at wants
-    → IsMeeting source sites nodes start old next (node ∷ rest) → IsMeeting source sites nodes start new later rest
-meeting_goes_on source sites nodes start old new next later node rest wants site is was = grind (arith, was.firsts, site, fold-append further (wanted_in source old.firsts) (wanted_at source old.blanks node.kind node.at (said source wants)) (wanted_from source (blanks_behind old.blanks node.kind) (sites_from source later rest)), met_firsts source old node.kind node.at wants, met_blanks source old node.kind node.at wants, was.blanks, was.covered, is)
-
-pub meeting_more : (source : Source) (sites : List Site) (nodes : List RawNode) (start old new : Variables) (next later : List (List ℕ)) (i : ℕ) (d : RawNode) (wants : Span) → i < length nodes
+pub meeting_more : (source : Source) (sites : List Site) (start old new : Variables) (next later : List (List ℕ)) (nodes : List RawNode) (i : ℕ) (d : RawNode) (wants : Span) → i < length nodes
     → sites_from source next (get_or nodes i d ∷ drop (i + 1) nodes) ≡ record { node = get_or nodes i d; wants = said source wants } ∷ sites_from source later (drop (i + 1) nodes)
     → new ≡ met_site source old (get_or nodes i d).kind (get_or nodes i d).at wants
-    → IsMeeting source sites nodes start old next (drop i nodes) → IsMeeting source sites nodes start new later (drop (i + 1) nodes)
-meeting_more source sites nodes start old new next later i d wants h site is was = meeting_goes_on source sites nodes start old new next later (get_or nodes i d) (drop (i + 1) nodes) wants site is (rw (drop_more nodes i d h) at was)
+    → IsMeeting source sites start old (sites_from source next (drop i nodes)) → IsMeeting source sites start new (sites_from source later (drop (i + 1) nodes))
+meeting_more source sites start old new next later nodes i d wants h site is was =
+    let node = get_or nodes i d in
+    let met = rw (drop_more nodes i d h, site) at was in
+    grind (arith, met.firsts, met.blanks, is, fold-append further (wanted_in source old.firsts) (wanted_at source old.blanks node.kind node.at (said source wants)) (wanted_from source (blanks_behind old.blanks node.kind) (sites_from source later (drop (i + 1) nodes))), met_firsts source old node.kind node.at wants, met_blanks source old node.kind node.at wants)
 
 pub no_sites : (source : Source) (next : List (List ℕ)) → sites_from source next [] ≡ []
 no_sites source next = grind arith
 
--- all nodes of an atom were met
-pub meeting_over : (source : Source) (atom : RawAtom) (types : List (List ℕ)) (nodes : List RawNode) (start now : Variables) (next : List (List ℕ)) (i : ℕ) → sites_from source types atom.nodes ≡ sites_in source atom → nodes ≡ atom.nodes → length nodes ≤ i
-    → IsMeeting source (sites_from source types nodes) nodes start now next (drop i nodes) → AreMet source (atom ∷ []) start now
-meeting_over source atom types nodes start now next i types_are nodes_are h was =
-    let over : IsMeeting source (sites_from source types nodes) nodes start now next [] = subst (IsMeeting source (sites_from source types nodes) nodes start now next) (drop_all i nodes h) was in
-    grind (arith, append-nil (sites_in source atom), append-nil atom.nodes, no_sites source next, over.firsts, over.blanks, over.covered)
+-- all terms of an atom were met
+pub meeting_over : (source : Source) (atom : RawAtom) (types : List (List ℕ)) (start now : Variables) (next : List (List ℕ)) (i : ℕ) → sites_from source types atom.nodes ≡ sites_in source atom → length atom.nodes ≤ i
+    → IsMeeting source (sites_from source types atom.nodes) start now (sites_from source next (drop i atom.nodes)) → AreMet source (atom ∷ []) start now
+meeting_over source atom types start now next i types_are over was =
+    let met : IsMeeting source (sites_in source atom) start now [] = rw (drop_all i atom.nodes over, no_sites source next, types_are) at was in
+    grind (arith, append-nil (sites_in source atom), met.firsts, met.blanks)
 
 -- ---- atoms are met one after another
 
 pub none_are_met : (source : Source) (now : Variables) → AreMet source [] now now
-none_are_met source now = record { firsts = refl; blanks = refl; covered = refl }
+none_are_met source now = record { firsts = refl; blanks = refl }
 
 pub wanted_both : (source : Source) (blanks : ℕ) (sites others : List Site) → wanted_from source blanks (sites ++ others) ≡ wanted_from source blanks sites ++ wanted_from source (blanks_after blanks (nodes_at sites)) others
 wanted_both source blanks [] others = refl
@@ -176,11 +172,20 @@ none_wanted : (source : Source) (blanks : ℕ) (next : List (List ℕ)) (nodes :
 none_wanted source blanks (wants ∷ next) (node ∷ nodes) none = grind (arith, none_wanted source (blanks_behind blanks node.kind) (node_types source node.kind node.at ++ next) nodes)
 none_wanted source blanks next nodes none = grind arith
 
-pub one_closed : (source : Source) (atom : RawAtom) (none : Variables) → none ≡ none_met → list_any (λ (node : RawNode). is_variable_or_blank node.kind) atom.nodes ≡ false
-    → atom_clashes source (type_met source none.firsts) atom ≡ scope_clashes source (atom ∷ [])
-one_closed source atom none is closed = grind (arith, append-nil, clashes_same, none_wanted)
+none_blank : (source : Source) (blanks : ℕ) (next : List (List ℕ)) (nodes : List RawNode) → list_any (λ (node : RawNode). is_variable_or_blank node.kind) nodes ≡ false
+    → blanks_after blanks (map (λ (site : Site). site.node) (sites_from source next nodes)) ≡ blanks
+none_blank source blanks (wants ∷ next) (node ∷ nodes) none = grind (arith, none_blank source (blanks_behind blanks node.kind) (node_types source node.kind node.at ++ next) nodes)
+none_blank source blanks next nodes none = grind arith
 
--- the same, of one part and of two
+pub closed_met : (source : Source) (atom : RawAtom) (variables : Variables) → list_any (λ (node : RawNode). is_variable_or_blank node.kind) atom.nodes ≡ false → AreMet source (atom ∷ []) variables variables
+closed_met source atom variables closed =
+    let types = pred_types source (said source atom.name) in
+    record {
+      firsts = rw (append-nil (sites_in source atom), none_wanted source variables.blanks types atom.nodes closed) refl;
+      blanks = rw (append-nil (sites_in source atom), none_blank source variables.blanks types atom.nodes closed) refl;
+    }
+
+-- clashes of one part and of two
 pub one_found : (source : Source) (atom : RawAtom) (start variables : Variables) → start ≡ none_met → AreMet source (atom ∷ []) start variables → atom_clashes source (type_met source variables.firsts) atom ≡ scope_clashes source (atom ∷ [])
 one_found source atom start variables is met = sym (append-nil (atom_clashes source (type_met source variables.firsts) atom)) ∙ scope_found source (atom ∷ []) variables (subst (λ (v : Variables). AreMet source (atom ∷ []) v variables) is met)
 

@@ -9,7 +9,6 @@ use Rattle.cep_parse.specs.declared.raw.RawKind.TheVariants as kind
 use Rattle.cep_parse.specs.declared.raw.RawAtom.{RawAtom}
 use Rattle.cep_source.specs.declared.space.Space.TheVariants as space
 use Rattle.cep_source.specs.Items.{Source, said}
-use Rattle.cep_parse.specs.Raw.{raw_nodes}
 use Rattle.cep_types.specs.Sites.{Wanted, sites_of, wanted_from}
 use Rattle.cep_types.specs.Heads.{Head, con, var}
 use Rattle.cep_types.specs.Heads as heads
@@ -33,11 +32,10 @@ wanted_in source firsts = map (λ entry. record { name = entry.0; wants = said s
 abbrev pub further : List Wanted → Wanted → List Wanted
 further old next = if list_any (λ other. bytes_eq next.name other.name) old then old else old ++ next ∷ []
 
--- Where the old variables were met, the new ones are met after these atoms, each node of which has its type.
+-- Where the old variables were met, the new ones are met after the terms of these atoms, each with the type that is wanted of it.
 pub record AreMet (source : Source) (atoms : List RawAtom) (old new : Variables) : Type 0 where
   pub firsts : wanted_in source new.firsts ≡ fold further (wanted_in source old.firsts) (wanted_from source old.blanks (sites_of source atoms))
-  pub blanks : new.blanks ≡ blanks_after old.blanks (raw_nodes atoms)
-  pub covered : map (λ site. site.node) (sites_of source atoms) ≡ raw_nodes atoms
+  pub blanks : new.blanks ≡ blanks_after old.blanks (map (λ site. site.node) (sites_of source atoms))
 
 -- whether a node is a variable or a blank
 abbrev pub is_variable_or_blank : RawKind → Bool

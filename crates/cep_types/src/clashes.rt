@@ -1,13 +1,13 @@
 // The terms of a text that are of other types than are wanted.
 ghost use Rattle.std.specs.Prelude.{◌≡◌, [], ◌∷◌, ◌++◌, None, IfOk};
-ghost use Rattle.std.specs.List.{flat_map, list_any};
+ghost use Rattle.std.specs.List.{flat_map};
 ghost use Rattle.std.specs.Option.{option_map};
 ghost use Rattle.cep_refusal.specs.First.{first_in, IsFirstOrNone};
 ghost use Rattle.cep_parse.specs.Raw.{atoms_of};
 ghost use Rattle.cep_source.specs.Items.{said};
 ghost use Rattle.cep_source.specs.Kept.{atom_at, clause_item};
 ghost use Rattle.cep_types.specs.Clashes.{type_at, clash_of, atom_clashes, scope_clashes, state_clashes, rule_clashes, clause_clashes, context_clashes, trace_clashes};
-ghost use Rattle.cep_types.specs.Met.{type_met, is_variable_or_blank};
+ghost use Rattle.cep_types.specs.Met.{type_met};
 ghost use Rattle.cep_types.specs.Sites.{Mistyped, clause_scope};
 
 use crate::sites::{Expected, pending, site};
@@ -65,7 +65,9 @@ fn atom_clash(
     let mut first = FirstFault::none();
     let mut pending = pending(source, atom.name)?;
     for node in atom.nodes {
-        let site = site(source, &mut pending, node)?;
+        let Some(site) = site(source, &mut pending, node)? else {
+            continue;
+        };
         first.note(clash(source, variables, node, site));
     }
     Ok(first.found())
@@ -119,22 +121,13 @@ fn clash_among(
     Ok(first.found())
 }
 
-// Whether a node is a variable or a blank.
-fn has_variable(nodes: &[RawNode]) -> bool
-    ensures { result ≡ list_any (λ node. is_variable_or_blank node.kind) nodes.now }
-{
-    nodes.iter().any(|node| node.kind != RawKind::App)
-}
-
 // The first one of an atom that shares its variables with no other.
 fn lone_clash(source: &Source, atom: AtomRef) -> Result<Option<Fault>, AllocError>
     ensures { IfOk result (λ first. first
         ≡ first_in (scope_clashes source.now (atom_at atom.entry ∷ []))) }
 {
     let mut variables = Variables::unmet(source.alloc());
-    if has_variable(atom.nodes) {
-        meet_atom(source, &mut variables, atom)?;
-    }
+    meet_atom(source, &mut variables, atom)?;
     atom_clash(source, &variables, atom)
 }
 

@@ -1,5 +1,5 @@
 // Which type is wanted of each term of an atom.
-ghost use Rattle.std.specs.Prelude.{◌≡◌, [], ◌∷◌, List, None, map, unwrap_or, IfOk};
+ghost use Rattle.std.specs.Prelude.{◌≡◌, [], ◌∷◌, List, None, map, unwrap_or, IfOk, IfSome, MatchOption};
 ghost use Rattle.std.specs.Option.{option_map};
 ghost use Rattle.cep_parse.specs.declared.raw.RawNode.{RawNode};
 ghost use Rattle.cep_source.specs.Items.{said};
@@ -51,27 +51,30 @@ pub(crate) fn pending(source: &Source, name: Span) -> Result<Stack<Span>, AllocE
     Ok(pending)
 }
 
-// What is wanted of the next node, and its constructor's type.
+// What is wanted of the next node, and its constructor's type, or none where nothing is wanted.
 pub(crate) fn site(
     source: &Source,
     pending: &mut Stack<Span>,
     node: &RawNode,
-) -> Result<Expected, AllocError>
-    ensures wants { (nodes : List RawNode)
-        → IfOk result (λ site. sites_from source.now (map (said source.now) pending.old)
-        (node.now ∷ nodes) ≡ record { node = node.now; wants = said source.now site.wants }
-        ∷ sites_from source.now (map (said source.now) pending.new) nodes) }
-    ensures sort { IfOk result (λ site. option_map (said source.now) site.sort
-        ≡ type_at source.now (λ name. None) node.now.kind node.now.at) }
+) -> Result<Option<Expected>, AllocError>
+    ensures wants { (nodes : List RawNode) → IfOk result (λ site. MatchOption site
+        ((pending.old ≡ []) × (pending.new ≡ []))
+        (λ site. sites_from source.now (map (said source.now) pending.old) (node.now ∷ nodes)
+        ≡ record { node = node.now; wants = said source.now site.wants }
+        ∷ sites_from source.now (map (said source.now) pending.new) nodes)) }
+    ensures sort { IfOk result (λ site. IfSome site (λ site.
+        option_map (said source.now) site.sort
+        ≡ type_at source.now (λ name. None) node.now.kind node.now.at)) }
 {
-    // In a text without wrong names no node is one too many.
-    let wants = pending.pop().ok_or(AllocError)?;
+    let Some(wants) = pending.pop() else {
+        return Ok(None);
+    };
     let Some(con) = con_at(source, node) else {
-        return Ok(Expected { wants, sort: None });
+        return Ok(Some(Expected { wants, sort: None }));
     };
     pending.push_all(con.args)?;
-    Ok(Expected {
+    Ok(Some(Expected {
         wants,
         sort: Some(con.sort),
-    })
+    }))
 }

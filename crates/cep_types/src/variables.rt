@@ -1,20 +1,28 @@
 // The variables of atoms that share them, each with the type that is wanted where it occurs first.
 ghost use Rattle.std.specs.Prelude.{◌≡◌, ◌∷◌, ◌++◌, [], IfOk, OnOk};
+ghost use Rattle.std.specs.List.{list_any};
 ghost use Rattle.cep_parse.specs.Raw.{atoms_of};
 ghost use Rattle.cep_base.specs.FirstNames.{names_among};
 ghost use Rattle.cep_source.specs.Met.{none_met};
 ghost use Rattle.cep_source.specs.Kept.{atom_at, clause_item};
 ghost use Rattle.cep_types.specs.Heads.{variable_of, head_at};
-ghost use Rattle.cep_types.specs.Met.{AreMet, kinds_met, head_by};
+ghost use Rattle.cep_types.specs.Met.{AreMet, is_variable_or_blank, kinds_met, head_by};
 
 use crate::numbers::{kinds, number, number_at};
 use crate::sites::{pending, site};
 use cep_base::List;
-use cep_parse::{RawElem, RawNode, RawRule};
+use cep_parse::{RawElem, RawKind, RawNode, RawRule};
 use cep_source::{AtomRef, ClauseRef, Source, Space, Variables, variable_at};
 use std::alloc::AllocError;
 
-// Meets the variables of an atom.
+// Whether a node is a variable or a blank.
+fn has_variable(nodes: &[RawNode]) -> bool
+    ensures { result ≡ list_any (λ node. is_variable_or_blank node.kind) nodes.now }
+{
+    nodes.iter().any(|node| node.kind != RawKind::App)
+}
+
+// Meets the variables of an atom. Most facts and atoms of states have none.
 pub(crate) fn meet_atom(
     source: &Source,
     variables: &mut Variables,
@@ -23,9 +31,14 @@ pub(crate) fn meet_atom(
     ensures { OnOk result (AreMet source.now
         (atom_at atom.entry ∷ []) variables.old variables.new) }
 {
+    if !has_variable(atom.nodes) {
+        return Ok(());
+    }
     let mut pending = pending(source, atom.name)?;
     for node in atom.nodes {
-        let site = site(source, &mut pending, node)?;
+        let Some(site) = site(source, &mut pending, node)? else {
+            continue;
+        };
         variables.meet(source, node, site.wants)?;
     }
     Ok(())

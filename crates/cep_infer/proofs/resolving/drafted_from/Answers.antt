@@ -14,6 +14,7 @@ unwrap-trace-requires c = some_trace c.args.source.now c.traces.result.now c.ite
 pub parts_from-requires : goal.parts_from-requires
 parts_from-requires c = record {
   named = rw c.in_default.is at c.in_ok-misnamed.ensures;
+  filled = c.requires.filled;
   first = first_trace c.args.source.now c.traces.result.now c.unwrap-trace.result c.item_at.result c.traces.ensures c.item_at.ensures c.unwrap-trace.ensures;
 }
 

@@ -10,5 +10,5 @@ returns-clause-rule c =
     let item = c.args.item.now in
     let sides = c.in_ok-left.ensures in
     rule_built source (rule_item item) c.args.variables.now _ sides.behind _
-    c.requires c.in_ok-vars.ensures c.in_ok-kinds.ensures (c.in_ok-group.ensures ∙ ap (group_of source item.home) c.as_slice.ensures) (c.in_ok-next.ensures ∙ ap (next_of source item.home) c.as_slice-2.ensures)
+    c.requires.met c.requires.covered c.in_ok-vars.ensures c.in_ok-kinds.ensures (c.in_ok-group.ensures ∙ ap (group_of source item.home) c.as_slice.ensures) (c.in_ok-next.ensures ∙ ap (next_of source item.home) c.as_slice-2.ensures)
     sides.left_is refl refl sides.right_is

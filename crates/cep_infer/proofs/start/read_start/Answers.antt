@@ -5,7 +5,7 @@ use Rattle.cep_term.specs.Tree.{IsGroundAtom, atom_of}
 use Rattle.cep_term.specs.Multiset.{once}
 use Rattle.cep_source.specs.Kept.{trace_item}
 use Rattle.cep_infer.specs.Meaning.{is_fact_by}
-use Rattle.cep_infer.proofs.RulesInTurn.{start_ground}
+use Rattle.cep_infer.proofs.RulesInTurn.{start_ground, start_filled}
 use Rattle.cep_infer.proofs.HeldOnce.{all_reordered, same_gathered}
 use Rattle.cep_infer.proofs.start.read_start.Goals as goal
 
@@ -28,3 +28,6 @@ returns c =
       start_is = is ∙ ap (once (is_fact_by c.args.source.now)) (same_gathered c.bags_are_lawful.ensures c.in_ok-atoms.atoms trees same ground);
     })
     c.add_all.ensures
+
+pub start_atoms-requires : goal.start_atoms-requires
+start_atoms-requires c = start_filled c.args.source.now c.requires.filled (trace_item c.args.trace.now) c.requires.there
