@@ -1,4 +1,4 @@
-pub mod Fits
 pub mod SizeOrder
 pub mod Unset
 pub mod InOrder
+pub mod Joined

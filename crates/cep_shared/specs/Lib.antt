@@ -5,3 +5,4 @@ pub mod Falling
 pub mod Links
 pub mod Shared
 pub mod Sizes
+pub mod Unasked
