@@ -3,11 +3,12 @@
 //! matches of the premises that a state has to meet; no state is looked at here.
 //!
 //! Each backward premise is asked of backward chaining, and each of its answers is followed before the
-//! next. Besides, the laws of values that are found, and of the offers that each state has.
+//! next. What is solved is kept in a tabling, for one match or for all matches that share it. Besides,
+//! the laws of values that are found, and of the offers that each state has.
 #![tactic(auto)]
 
 mod backs;
 mod completing;
 pub mod laws;
 
-pub use completing::completions;
+pub use completing::{completions, tabled_completions};
