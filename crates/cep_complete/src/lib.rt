@@ -11,4 +11,4 @@ mod backs;
 mod completing;
 pub mod laws;
 
-pub use completing::{completions, tabled_completions};
+pub use completing::completions;
