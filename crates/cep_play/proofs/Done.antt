@@ -19,18 +19,21 @@ use Rattle.cep_run.specs.Fronts.{BeginsSome, LeavesUnheard}
 use Rattle.cep_run.specs.declared.tally.Tally.{Tally}
 use Rattle.cep_run.specs.Said.{IsSaid, IsTally}
 use Rattle.cep_run.proofs.Framed.{outs_unheard}
-use Rattle.cep_play.specs.Exchange.{Talked, Loaded, AskedFor, Went, Wrote, IsUnread}
-use Rattle.cep_play.specs.Command.{AsksUpTo, settings_of, OfFile, IsSpelledBy}
-use Rattle.cep_play.specs.Outside.{Due, Report, report_due, code_told, Outside}
+use Rattle.cep_examine.specs.Exchange.{Talked, Loaded, AskedFor, Went, Wrote, IsUnread, WrotePrefix}
+use Rattle.cep_play.specs.Command.{AsksUpTo, settings_of}
+use Rattle.cep_examine.specs.Loading.{OfFile, IsSpelledBy}
+use Rattle.cep_play.specs.Outside.{Due, report_due, Outside}
+use Rattle.cep_examine.specs.Report.{Report, code_told}
 use Rattle.cep_play.specs.Due.{IsDueOf, IsDueAtAll, IsDueUnreadOf}
-use Rattle.cep_play.specs.Reports.{Reports}
+use Rattle.cep_examine.specs.Reports.{Reports}
 use Rattle.cep_play.specs.Answered.{AsksAtMost, DoesWhatIsDue, IsOnShelf, EndsWith, EndsBy, ReportsBy, TellsWhatIsDue}
 use Rattle.cep_play.specs.World.{summary, IsTallied}
 use Rattle.cep_play.specs.Begun.{BeginsWhatIsDue, AsksPrefixOfAll}
 use Rattle.cep_lines.specs.declared.end_word.EndWord.{EndWord}
 use Rattle.cep_world.specs.World.{world}
-use Rattle.cep_play.specs.Outcome.{InVain, WrotePrefix, IsSomePlaySaid, IsReportOn, IsToPlay, all_read, IsPlaySaid, IsSilentRun, ReportsRun, CommandDid, ComesWith, one_unread}
-use Rattle.cep_play.proofs.Reported.{IsOneRequest, asked_due, adds_none, told_is, told_low, rose_by_all, code, ReadsOnce, one_code}
+use Rattle.cep_play.specs.Outcome.{InVain, IsSomePlaySaid, IsReportOn, IsToPlay, all_read, IsPlaySaid, IsSilentRun, ReportsRun, CommandDid, ComesWith, one_unread}
+use Rattle.cep_examine.proofs.Statuses.{code}
+use Rattle.cep_play.proofs.Reported.{IsOneRequest, asked_due, adds_none, told_is, told_low, rose_by_all, OneStatus}
 use Rattle.cep_play.proofs.Playing.{went_map, some_dialogue, said_less, dialogue_said, rose_by_play, SomePlay, players_within, some_play, ends_with, AreThere, AreThereInRounds, some_end}
 use Rattle.cep_base.specs.declared.limits.TheConstants.{DEFAULT_SEED}
 use Rattle.cep_base.specs.declared.console.Event.{Event}
@@ -234,7 +237,7 @@ told_text files name text other told has = grind (arith, some_same)
 module _ (one : IsOneRequest)
     (there : AreThere) (in_rounds : AreThereInRounds)
     (is_program : (text : List ℕ) (program : Parts) → Spells text program → IsProgram program)
-    (reads : (text : List ℕ) (program : Parts) → Spells text program → ReadsOnce program)
+    (one_status : OneStatus)
     (words : List (List ℕ)) (loads : Loaded) where
   -- these statuses may come however a run ends
   ends_anyway : (players : Option ℕ) → SomePlay players → (text : List ℕ) (program : Parts) (settings : Settings) (come others : List ℕ) (status : ℕ) → Spells text program → Contains others status → EndsBy players program settings come others status
@@ -282,7 +285,7 @@ module _ (one : IsOneRequest)
         let programs = is.1 program (subst (λ t. Spells t program) (told_text loads.files file text other told has) spells) in
         let reported : Reports task program bytes report = subst (λ (p : Parts). Reports task p bytes report) (sym programs) (subst (λ b. Reports task spelled b report) (sym (told_text loads.files log bytes others there' has')) reports) in
         let told_so : status ≡ report.code = same ∙ ap (λ (d : Due). d.code) e in
-        ((λ other it. contains_same other.code (6 ∷ 7 ∷ 9 ∷ []) status (one_code task program bytes other report (reads text program spells) it reported ∙ sym told_so)), inr (report, reported, told_so))
+        ((λ other it. contains_same other.code (6 ∷ 7 ∷ 9 ∷ []) status (one_status task program bytes other report (is_program text program spells) it reported ∙ sym told_so)), inr (report, reported, told_so))
     examines task file log text program bytes told spells there' (inr (inl is)) = reports_anyway (Reports task program bytes) (6 ∷ 7 ∷ 9 ∷ []) status (unread_among _ refl is)
     examines task file log text program bytes told spells there' (inr (inr (_, is))) = reports_anyway (Reports task program bytes) (6 ∷ 7 ∷ 9 ∷ []) status (unread_among _ refl is)
 

@@ -22,18 +22,21 @@ use Rattle.cep_run.specs.declared.tally.Tally.{Tally}
 use Rattle.cep_run.specs.Run.{Turn, Ending}
 use Rattle.cep_run.specs.Dialogue.{Dialogue}
 use Rattle.cep_run.specs.Said.{IsSaid}
-use Rattle.cep_play.specs.Exchange.{Talked, Went}
+use Rattle.cep_examine.specs.Exchange.{Talked, Went}
 use Rattle.cep_play.specs.Counted.{RoseByPlay}
 use Rattle.cep_play.specs.Play.{IsDialogueOf, IsDialogueDue}
-use Rattle.cep_play.specs.Command.{OfFile, settings_of}
+use Rattle.cep_examine.specs.Loading.{OfFile}
+use Rattle.cep_play.specs.Command.{settings_of}
 use Rattle.cep_play.specs.Answered.{EndsWith, ReportsBy, TellsAllThatIsDue}
 use Rattle.cep_play.specs.Outcome.{IsRunSaid, IsPlaySaid, IsSomePlaySaid}
-use Rattle.cep_play.specs.Reports.{Reports}
+use Rattle.cep_examine.specs.Reports.{Reports}
 use Rattle.cep_world.specs.World.{world}
 use Rattle.cep_play.specs.Due.{IsDueOf, IsDue}
-use Rattle.cep_play.proofs.Reported.{code, ReadsOnce, one_code, IsOneRequest}
-use Rattle.cep_play.specs.Outside.{Outside, Due, Report, IsReportDue, OfText, code_told}
-use Rattle.cep_play.specs.DeadRules.{ReportsDead}
+use Rattle.cep_examine.proofs.Statuses.{code}
+use Rattle.cep_play.proofs.Reported.{OneStatus, IsOneRequest}
+use Rattle.cep_play.specs.Outside.{Outside, Due, IsReportDue, OfText}
+use Rattle.cep_examine.specs.Report.{Report, code_told}
+use Rattle.cep_examine.specs.DeadRules.{ReportsDead}
 use Rattle.cep_play.specs.World.{ReportsWorld}
 use Rattle.cep_log.specs.declared.log.Log.{Log}
 use Rattle.cep_log.specs.Legal.{IsLegal}
@@ -139,7 +142,7 @@ of_text text text' names come P Q due other same (inl (one, refused, e)) (inr tw
 of_text text text' names come P Q due other same (inr one) (inl (two, refused, e)) spelled = absurd (refused.no_program one.0 (subst (λ t. Spells t one.0) same one.1.0))
 of_text text text' names come P Q due other same (inr one) (inr two) spelled = spelled one.0 two.0 one.1.0 (sym (one.1.1 two.0 (subst (λ t. Spells t two.0) (sym same) two.1.0))) one.2 two.2
 
-module _ (reads : (text : List ℕ) (program : Parts) → Spells text program → ReadsOnce program) (files : Files) (come : List ℕ) where
+module _ (kept : (text : List ℕ) (program : Parts) → Spells text program → IsProgram program) (one_status : OneStatus) (files : Files) (come : List ℕ) where
   abbrev over : Outside
   over = record { files = Some files; come = come }
 
@@ -160,7 +163,7 @@ module _ (reads : (text : List ℕ) (program : Parts) → Spells text program �
   checks_are_one : (task : Task) (file log : List ℕ) (due other : Due) → IsDueOf (Examine task file log) over due → IsDueOf (Examine task file log) over other → AreOne due other
   checks_are_one task file log due other (text, has, is) (text', has', is') = of_text text text' (file ∷ []) come
       (λ program. OfFile (Some files) log (λ bytes. IsReportDue (Reports task program bytes) (file ∷ log ∷ []) come due)) (λ program. OfFile (Some files) log (λ bytes. IsReportDue (Reports task program bytes) (file ∷ log ∷ []) come other)) due other (one_file file text text' has has') is is'
-      (λ program program' spells same one two. reports_are_one (Reports task program one.0) (file ∷ log ∷ []) due other (λ r r' is is'. one_code task program one.0 r r' (reads text program spells) is is') one.2
+      (λ program program' spells same one two. reports_are_one (Reports task program one.0) (file ∷ log ∷ []) due other (λ r r' is is'. one_status task program one.0 r r' (kept text program spells) is is') one.2
       (subst (λ bytes. IsReportDue (Reports task program bytes) (file ∷ log ∷ []) come other) (sym (one_file log one.0 two.0 one.1 two.1)) (subst (λ (p : Parts). IsReportDue (Reports task p two.0) (file ∷ log ∷ []) come other) (sym same) two.2)))
 
   deads_are_one : (file : List ℕ) (due other : Due) → IsDueOf (Dead file) over due → IsDueOf (Dead file) over other → AreOne due other

@@ -16,10 +16,12 @@ use Rattle.cep_run.specs.Run.{Turn, Ending}
 use Rattle.cep_run.specs.Dialogue.{Dialogue}
 use Rattle.cep_players.specs.Runs.{TurnOrRound, EndOfRounds}
 use Rattle.cep_players.specs.Dialogues.{DialogueInRounds}
-use Rattle.cep_play.specs.Exchange.{Talked, Loaded, IsUnread, AskedFor}
-use Rattle.cep_play.specs.Command.{OfRequest, OfFile, AsksFor, AsksUpTo, IsSpelledBy, settings_of}
-use Rattle.cep_play.specs.Outside.{Due, Report, code_told}
-use Rattle.cep_play.specs.Reports.{Reports}
+use Rattle.cep_examine.specs.Exchange.{Talked, Loaded, IsUnread, AskedFor}
+use Rattle.cep_play.specs.Command.{OfRequest, AsksFor, AsksUpTo, settings_of}
+use Rattle.cep_examine.specs.Loading.{OfFile, IsSpelledBy}
+use Rattle.cep_play.specs.Outside.{Due}
+use Rattle.cep_examine.specs.Report.{Report, code_told}
+use Rattle.cep_examine.specs.Reports.{Reports}
 use Rattle.cep_play.specs.Due.{IsDueAtAll}
 
 -- What is due of the words was done, or what is due where a file could not be read: these are its events, this is left, its names were asked, and the status is its code.

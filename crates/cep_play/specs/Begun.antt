@@ -3,7 +3,7 @@ use Rattle.std.specs.Prelude.{◌≡◌, ℕ, List, ◌++◌, take, Some}
 use Rattle.cep_base.specs.declared.console.Event.{Event}
 use Rattle.cep_base.specs.Files.{Files}
 use Rattle.cep_run.specs.Fronts.{LeavesUnheard}
-use Rattle.cep_play.specs.Exchange.{Loaded, IsUnread, AskedFor}
+use Rattle.cep_examine.specs.Exchange.{Loaded, IsUnread, AskedFor}
 use Rattle.cep_play.specs.Outside.{Due}
 use Rattle.cep_play.specs.Due.{IsDue, IsDueAtAll}
 

@@ -12,8 +12,9 @@ use Rattle.cep_run.specs.Run.{Turn, Ending, deeds_of}
 use Rattle.cep_run.specs.Dialogue.{Dialogue}
 use Rattle.cep_run.specs.Said.{IsSaid}
 use Rattle.cep_net.specs.Cost.{IsFirstCost, IsCost}
-use Rattle.cep_play.specs.Exchange.{Talked, Went}
-use Rattle.cep_play.specs.Command.{OfFile, IsSpelledBy, settings_of}
+use Rattle.cep_examine.specs.Exchange.{Talked, Went}
+use Rattle.cep_examine.specs.Loading.{OfFile, IsSpelledBy}
+use Rattle.cep_play.specs.Command.{settings_of}
 
 -- what the network may tick to begin, and for an edit
 abbrev pub NetBegins : Beginnings

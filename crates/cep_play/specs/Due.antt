@@ -1,12 +1,14 @@
 -- What is due of a list of words, over what the outside holds.
 use Rattle.std.specs.Prelude.{◌≡◌, ◌⊎◌, ℕ, List, [], ◌∷◌}
 use Rattle.cep_words.specs.Words.{Request, Play, Examine, Dead, World, HaveNoForm}
-use Rattle.cep_play.specs.Command.{OfRequest, OfFile, IsProgramText, usage, no_program, no_second}
-use Rattle.cep_play.specs.Outside.{Outside, Due, line_report, report_due}
+use Rattle.cep_play.specs.Command.{OfRequest, usage}
+use Rattle.cep_examine.specs.Loading.{OfFile, IsProgramText}
+use Rattle.cep_examine.specs.Unread.{no_program, no_second}
+use Rattle.cep_play.specs.Outside.{Outside, Due, report_due}
+use Rattle.cep_examine.specs.Report.{line_report}
 use Rattle.cep_play.specs.Play.{IsPlayDue}
-use Rattle.cep_play.specs.Reports.{IsExaminationDue}
-use Rattle.cep_play.specs.DeadRules.{IsDeadDue}
 use Rattle.cep_play.specs.World.{IsWorldDue}
+use Rattle.cep_play.specs.Examined.{IsExaminationDue, IsDeadDue}
 
 -- this is due of a request
 abbrev pub IsDueOf : Request → Outside → Due → Type 0

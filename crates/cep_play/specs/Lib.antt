@@ -1,13 +1,6 @@
-pub mod Exchange
 pub mod Command
 pub mod Outside
-pub mod Check
-pub mod Renew
-pub mod Cause
-pub mod Again
-pub mod Claims
-pub mod DeadRules
-pub mod Reports
+pub mod Examined
 pub mod World
 pub mod Play
 pub mod Due

@@ -7,8 +7,10 @@ use Rattle.cep_words.specs.declared.options.Options.{Options}
 use Rattle.cep_run.specs.declared.settings.Settings.{Settings}
 use Rattle.cep_run.specs.Said.{IsSaid}
 use Rattle.cep_players.specs.Said.{IsSaidInRounds}
-use Rattle.cep_play.specs.Command.{OfFile, settings_of}
-use Rattle.cep_play.specs.Outside.{Outside, Due, OfText, code_told}
+use Rattle.cep_examine.specs.Loading.{OfFile}
+use Rattle.cep_play.specs.Command.{settings_of}
+use Rattle.cep_play.specs.Outside.{Outside, Due, OfText}
+use Rattle.cep_examine.specs.Report.{code_told}
 
 -- A dialogue of the program that ends with the word: of one player, where nothing says how many
 -- play, or of so many in rounds.

@@ -9,7 +9,7 @@ use Rattle.cep_rule.specs.Steps.{Spot, start_spot}
 use Rattle.cep_log.specs.declared.log.Log.{Log}
 use Rattle.cep_run.specs.declared.settings.Settings.{Settings}
 use Rattle.cep_replay.specs.Playing.{AreTypedFor, CanBePlayed, IsReplayed, AreInteractive, HaveFewOffers}
-use Rattle.cep_play.specs.Check.{IsLegalTranscript}
+use Rattle.cep_examine.specs.Check.{IsLegalTranscript}
 use Rattle.cep_play.specs.Answered.{IsOnShelf}
 
 -- Some bytes can be typed for the steps of a log, if each stage is interactive and no step is one of

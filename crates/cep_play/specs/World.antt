@@ -11,7 +11,8 @@ use Rattle.cep_run.specs.Run.{Turn, Ending}
 use Rattle.cep_run.specs.Dialogue.{Dialogue}
 use Rattle.cep_run.specs.Said.{IsSaid, IsTally}
 use Rattle.cep_play.specs.Command.{settings_of}
-use Rattle.cep_play.specs.Outside.{Outside, Due, Report, IsReportDue, OfText, code_told}
+use Rattle.cep_play.specs.Outside.{Outside, Due, IsReportDue, OfText}
+use Rattle.cep_examine.specs.Report.{Report, code_told}
 
 -- the line of a count, as `turns 10`
 abbrev pub count_line : List ℕ → ℕ → List ℕ

@@ -2,7 +2,7 @@
 ghost use Rattle.std.specs.Prelude.{◌≡◌, ◌≢◌, ◌⊎◌, ◌<◌, ◌≤◌, [], ◌∷◌, map, string_bytes, IfOk, IfErr, Contains};
 ghost use Rattle.cep_base.specs.Talk.{ConsoleCause};
 ghost use Rattle.cep_base.specs.Faults.{Rose};
-ghost use Rattle.cep_play.specs.Exchange.{talked, loaded, Went};
+ghost use Rattle.cep_examine.specs.Exchange.{talked, loaded, Went};
 ghost use Rattle.cep_play.specs.Answered.{DoesWhatIsDue, IsNoDialogue, IsSpelled, IsWritten, TellsAllThatIsDue, AsksAsSaid, AsksAtMost};
 ghost use Rattle.cep_play.specs.Playable.{ChecksWhatCanHaveBeenPlayed};
 ghost use Rattle.cep_play.specs.Counted.{RoseByAll};
@@ -12,15 +12,13 @@ ghost use Rattle.cep_play.specs.Outcome.{CommandDid, InVain};
 use crate::laws::one_due;
 use crate::play::dialogue;
 use crate::reply::{Reply, reply_to};
-use crate::report::Status;
 use cep_base::{Console, ConsoleFault, Shelf, Steps};
-use cep_graph::laws::one_reordering_by_a_seed;
+use cep_examine::Status;
+use cep_examine::laws::one_status;
 use cep_ground::laws::clean_parts_are_a_program;
-use cep_log::laws::one_log;
 use cep_players::laws::dialogues_in_rounds_are_there;
 use cep_replay::laws::{interactive_logs_are_answered, legal_logs_can_be_played};
 use cep_run::laws::dialogues_are_there;
-use cep_weigh::laws::one_reading;
 use cep_words::laws::one_request;
 use std::alloc::Global;
 use std::sync::ledger::Ledger;
@@ -149,9 +147,7 @@ pub fn ceptre<C: Console, H: Shelf, L: Ledger>(
     clean_parts_are_a_program();
     legal_logs_can_be_played();
     interactive_logs_are_answered();
-    one_reading();
-    one_log();
-    one_reordering_by_a_seed();
+    one_status();
     match command(alloc, words, console, shelf, steps) {
         Ok(code) => code,
         Err(ConsoleFault::Failed) => 6,

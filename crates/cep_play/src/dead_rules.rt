@@ -1,26 +1,13 @@
-// Reports the dead rules of a program.
+// Reports the dead rules of the program in a file.
 ghost use Rattle.std.specs.Prelude.{◌≡◌, ◌⊎◌, IfOk};
-ghost use Rattle.cep_play.specs.Exchange.{loaded};
-ghost use Rattle.cep_play.specs.DeadRules.{ReportsDead};
-ghost use Rattle.cep_play.specs.Outcome.{report_of, ReportsNone, ReportsDeadIn, AsksFile};
+ghost use Rattle.cep_examine.specs.Exchange.{loaded, AsksFile};
+ghost use Rattle.cep_examine.specs.Report.{report_of};
+ghost use Rattle.cep_examine.specs.Loading.{ReportsNone};
+ghost use Rattle.cep_play.specs.Outcome.{ReportsDeadIn};
 
-use crate::loading::program_in;
-use crate::report::{Report, Status};
-use cep_base::{Shelf, Text};
-use cep_dead::dead;
-use cep_report::put_deads;
-use cep_rule::Program;
+use cep_base::Shelf;
+use cep_examine::{Report, program_in, report_dead};
 use std::alloc::{AllocError, Global};
-
-/// The report of the dead rules of a program.
-pub(crate) fn report_dead(alloc: Global, program: &Program) -> Result<Report, AllocError>
-    ensures { IfOk result (λ report. ReportsDead program.now (report_of report)) }
-{
-    let deads = dead(alloc, program)?;
-    let mut text = Text::new(alloc);
-    put_deads(program, &deads, &mut text)?;
-    Ok(Report::text(text, Status::Done))
-}
 
 /// The report of the dead rules of the program in a file of the shelf.
 pub(crate) fn report_dead_in<H: Shelf>(

@@ -4,10 +4,8 @@ ghost use Rattle.cep_base.specs.Files.{Files};
 ghost use Rattle.cep_play.specs.Outside.{Due};
 ghost use Rattle.cep_play.specs.Due.{IsDue};
 
-use cep_graph::laws::one_reordering_by_a_seed;
+use cep_examine::laws::one_status;
 use cep_ground::laws::clean_parts_are_a_program;
-use cep_log::laws::one_log;
-use cep_weigh::laws::one_reading;
 use cep_words::laws::one_request;
 
 /// Where the shelf tells its files, what is due of words is one but for what is written: one
@@ -21,7 +19,5 @@ pub fn one_due()
 {
     one_request();
     clean_parts_are_a_program();
-    one_reading();
-    one_log();
-    one_reordering_by_a_seed();
+    one_status();
 }

@@ -4,7 +4,7 @@ ghost use Rattle.cep_base.specs.Talk.{ConsoleCause};
 ghost use Rattle.cep_words.specs.Words.{AreWithin};
 ghost use Rattle.cep_run.specs.Fronts.{FellShort};
 ghost use Rattle.cep_run.specs.Said.{IsSomeSaid};
-ghost use Rattle.cep_play.specs.Exchange.{talked, Went};
+ghost use Rattle.cep_examine.specs.Exchange.{talked, Went};
 ghost use Rattle.cep_play.specs.Command.{settings_of};
 ghost use Rattle.cep_play.specs.Outcome.{IsRunSaid, IsPlaySaid, IsSomePlaySaid};
 

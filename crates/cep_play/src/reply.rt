@@ -1,15 +1,14 @@
 // What words come to before anything is written: a report, or a dialogue that is to be held.
 ghost use Rattle.std.specs.Prelude.{◌≡◌, ◌≤◌, map, string_bytes, IfOk, OnErr};
-ghost use Rattle.cep_play.specs.Exchange.{loaded};
+ghost use Rattle.cep_examine.specs.Exchange.{loaded};
 ghost use Rattle.cep_play.specs.Answered.{AsksAtMost};
 ghost use Rattle.cep_play.specs.Outcome.{IsReply};
 
 use crate::dead_rules::report_dead_in;
 use crate::examine::examine;
-use crate::loading::program_in;
-use crate::report::{Report, Status};
 use crate::world::tour;
 use cep_base::{Shelf, Steps};
+use cep_examine::{Report, Status, program_in};
 use cep_rule::Program;
 use cep_words::laws::one_request;
 use cep_words::{Options, Request};

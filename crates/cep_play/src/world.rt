@@ -1,17 +1,17 @@
 // Runs a generated world, which nobody plays, and sums it up.
-ghost use Rattle.std.specs.Prelude.{◌≡◌, ◌≤◌, IfOk};
+ghost use Rattle.std.specs.Prelude.{◌≤◌, IfOk};
 ghost use Rattle.cep_base.specs.declared.limits.TheConstants.{MOST_WORLD};
 ghost use Rattle.cep_words.specs.Words.{AreWithin, IsUpTo};
 ghost use Rattle.cep_play.specs.Command.{settings_of};
-ghost use Rattle.cep_play.specs.Outcome.{report_of, ReportsRun, ReportsTour, IsSilentRun};
+ghost use Rattle.cep_examine.specs.Report.{report_of};
+ghost use Rattle.cep_play.specs.Outcome.{ReportsRun, ReportsTour, IsSilentRun};
 
-use crate::loading::program_of;
 use crate::play::run;
-use crate::report::{Report, Status};
 use crate::silence::Silence;
 use crate::summary::put_summary;
 use cep_base::limits::DEFAULT_SEED;
 use cep_base::{ConsoleFault, Steps, Text};
+use cep_examine::{Report, Status, program_of};
 use cep_rule::Program;
 use cep_run::Tally;
 use cep_words::Options;

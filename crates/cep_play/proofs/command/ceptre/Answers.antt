@@ -1,6 +1,6 @@
 use Rattle.std.proofs.Common.{map, refl, lit<, inl, inr, ⊎_elim, arith}
 use Rattle.std.specs.Prelude.{string_bytes}
-use Rattle.cep_play.specs.Exchange.{talked, loaded}
+use Rattle.cep_examine.specs.Exchange.{talked, loaded}
 use Rattle.cep_play.proofs.Reported.{at_most}
 use Rattle.cep_play.proofs.Playing.{checked}
 use Rattle.cep_play.proofs.Done.{tells_what_is_due, tells_anyway, among_all, failed_by, fails_by, no_fault, prefixes_asked}
@@ -24,14 +24,7 @@ returns-in-Ok-clause-begun_or_silent g c = λ nine. absurd (no_fault c.in-Ok.ens
 pub returns-in-Ok-clause-due : goal.returns-in-Ok-clause-due
 returns-in-Ok-clause-due g c =
     tells_what_is_due c.one_request.ensures c.dialogues_are_there.ensures c.dialogues_in_rounds_are_there.ensures (λ text program spells. c.clean_parts_are_a_program.ensures.program spells.source program spells.clean spells.bound spells.declared spells.grounded)
-    (λ text program spells.
-    let kept = c.clean_parts_are_a_program.ensures.program spells.source program spells.clean spells.bound spells.declared spells.grounded in
-    record {
-      claims = λ bytes one other. c.one_reading.ensures.claims program bytes one other kept;
-      either = λ bytes weights fault. c.one_reading.ensures.either program bytes weights fault kept;
-      logs = λ bytes one other. c.one_log.ensures.once program bytes one other kept;
-      answers = c.one_reordering_by_a_seed.ensures program;
-    })
+    c.one_status.ensures.same
     (map string_bytes c.args.words.now) (loaded g.H.Shelf.files g.H.Shelf.asked g.H.Shelf.faults c.args.shelf.now c.command.new.shelf) (talked g.C.Console.talk g.C.Console.left c.args.console.now c.command.new.console) c.args.steps.now c.command.new.steps _ c.in-Ok.ensures.done
 
 pub returns-in-Ok-clause-no_other : goal.returns-in-Ok-clause-no_other
@@ -64,14 +57,7 @@ returns-in-Err-Failed-clause-asked g c = λ _. (rw c.in-Err-Failed.field-0-is at
 pub returns-in-Err-Failed-clause-due : goal.returns-in-Err-Failed-clause-due
 returns-in-Err-Failed-clause-due g c = λ request ask.
     tells_anyway c.one_request.ensures c.dialogues_are_there.ensures c.dialogues_in_rounds_are_there.ensures (λ text program spells. c.clean_parts_are_a_program.ensures.program spells.source program spells.clean spells.bound spells.declared spells.grounded)
-    (λ text program spells.
-    let kept = c.clean_parts_are_a_program.ensures.program spells.source program spells.clean spells.bound spells.declared spells.grounded in
-    record {
-      claims = λ bytes one other. c.one_reading.ensures.claims program bytes one other kept;
-      either = λ bytes weights fault. c.one_reading.ensures.either program bytes weights fault kept;
-      logs = λ bytes one other. c.one_log.ensures.once program bytes one other kept;
-      answers = c.one_reordering_by_a_seed.ensures program;
-    })
+    c.one_status.ensures.same
     (map string_bytes c.args.words.now) (loaded g.H.Shelf.files g.H.Shelf.asked g.H.Shelf.faults c.args.shelf.now c.command.new.shelf) (g.C.Console.left c.args.console.now) request 6 ask (0, lit< tt, refl)
 
 pub returns-in-Err-Failed-clause-no_other : goal.returns-in-Err-Failed-clause-no_other
@@ -95,14 +81,7 @@ returns-in-Err-Memory-clause-asked_at_most g c = λ _.
 pub returns-in-Err-Memory-clause-due : goal.returns-in-Err-Memory-clause-due
 returns-in-Err-Memory-clause-due g c = λ request ask.
     tells_anyway c.one_request.ensures c.dialogues_are_there.ensures c.dialogues_in_rounds_are_there.ensures (λ text program spells. c.clean_parts_are_a_program.ensures.program spells.source program spells.clean spells.bound spells.declared spells.grounded)
-    (λ text program spells.
-    let kept = c.clean_parts_are_a_program.ensures.program spells.source program spells.clean spells.bound spells.declared spells.grounded in
-    record {
-      claims = λ bytes one other. c.one_reading.ensures.claims program bytes one other kept;
-      either = λ bytes weights fault. c.one_reading.ensures.either program bytes weights fault kept;
-      logs = λ bytes one other. c.one_log.ensures.once program bytes one other kept;
-      answers = c.one_reordering_by_a_seed.ensures program;
-    })
+    c.one_status.ensures.same
     (map string_bytes c.args.words.now) (loaded g.H.Shelf.files g.H.Shelf.asked g.H.Shelf.faults c.args.shelf.now c.command.new.shelf) (g.C.Console.left c.args.console.now) request 9 ask (1, lit< tt, refl)
 
 pub returns-in-Err-Memory-clause-no_other : goal.returns-in-Err-Memory-clause-no_other

@@ -3,9 +3,10 @@ use Rattle.std.proofs.lemmas.Result.{IfOk-weaker, on_err_weaker}
 use Rattle.std.specs.Prelude.{string_bytes}
 use Rattle.cep_base.proofs.Outcomes.{on_err}
 use Rattle.cep_words.specs.Words.{Play}
-use Rattle.cep_play.specs.Exchange.{talked, loaded, Went}
+use Rattle.cep_examine.specs.Exchange.{talked, loaded, Went}
 use Rattle.cep_play.specs.Command.{settings_of}
-use Rattle.cep_play.specs.Outcome.{report_of, IsPlaySaid}
+use Rattle.cep_examine.specs.Report.{report_of}
+use Rattle.cep_play.specs.Outcome.{IsPlaySaid}
 use Rattle.cep_play.proofs.Done.{report_done, dialogue_done, cut_off, out_of_memory, report_begun, dialogue_begun}
 use Rattle.cep_play.proofs.command.command.Goals as goal
 

@@ -1,6 +1,6 @@
 use Rattle.std.proofs.Common.{sym}
 use Rattle.cep_base.proofs.Outcomes.{on_err}
-use Rattle.cep_play.specs.Exchange.{talked}
+use Rattle.cep_examine.specs.Exchange.{talked}
 use Rattle.cep_play.specs.Command.{settings_of}
 use Rattle.cep_play.proofs.Playing.{run_said}
 use Rattle.cep_play.proofs.play.dialogue.Goals as goal

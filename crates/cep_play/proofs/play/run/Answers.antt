@@ -1,6 +1,6 @@
 use Rattle.std.specs.Prelude.{IfOk, OnErr}
 use Rattle.std.proofs.Common.{subst}
-use Rattle.cep_play.specs.Exchange.{talked, Went}
+use Rattle.cep_examine.specs.Exchange.{talked, Went}
 use Rattle.cep_play.specs.Outcome.{IsRunSaid}
 use Rattle.cep_run.specs.declared.settings.Settings.{Settings}
 use Rattle.cep_run.specs.Fronts.{FellShort}

@@ -2,8 +2,8 @@ use Rattle.std.proofs.Common.{map, subst, refl, sym}
 use Rattle.std.specs.Prelude.{string_bytes}
 use Rattle.cep_words.specs.Words.{Play, Examine, Dead, World, AskFor}
 use Rattle.cep_words.specs.Requests.{request_of}
-use Rattle.cep_play.specs.Exchange.{loaded}
-use Rattle.cep_play.specs.Outcome.{report_of}
+use Rattle.cep_examine.specs.Exchange.{loaded}
+use Rattle.cep_examine.specs.Report.{report_of}
 use Rattle.cep_play.proofs.Reported.{adds_none, none_to_play, dead_of, tour_of, report_on, usage_on}
 use Rattle.cep_words.specs.declared.request.Request as code
 use Rattle.cep_play.proofs.reply.reply_to.Goals as goal

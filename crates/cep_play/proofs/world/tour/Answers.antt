@@ -1,9 +1,8 @@
 use Rattle.std.proofs.Common.{◌≡◌, inl, inr, ◌∙◌, subst}
 use Rattle.std.proofs.lemmas.Result.{IfOk-weaker}
 use Rattle.cep_world.specs.World.{world}
-use Rattle.cep_play.specs.Command.{IsSpelledBy}
-use Rattle.cep_play.specs.Outside.{IsRefusal}
-use Rattle.cep_play.specs.Outcome.{report_of}
+use Rattle.cep_examine.specs.Loading.{IsSpelledBy, IsRefusal}
+use Rattle.cep_examine.specs.Report.{report_of}
 use Rattle.cep_play.proofs.world.tour.Goals as goal
 
 pub returns-in-Ok-clause-reported : goal.returns-in-Ok-clause-reported

@@ -1,0 +1,12 @@
+pub mod Exchange
+pub mod Report
+pub mod Unread
+pub mod Loading
+pub mod Check
+pub mod Renew
+pub mod Cause
+pub mod Again
+pub mod Claims
+pub mod DeadRules
+pub mod Reports
+pub mod Outcome
