@@ -24,7 +24,6 @@ use Rattle.cep_check.specs.declared.cause.Verdict.TheVariants as verdicts
 use Rattle.cep_check.specs.Causes.{IsLogRefused, IsVerdict}
 use Rattle.cep_check.specs.Telling.{verdict_text, fault_text}
 use Rattle.cep_cause.specs.Renewed.{IsTooLongRenewed}
-use Rattle.cep_examine.specs.declared.report.Report as made
 use Rattle.cep_examine.specs.Exchange.{Loaded, IsRead}
 use Rattle.cep_examine.specs.Report.{Report, line_report}
 use Rattle.cep_examine.specs.Loading.{refusal_text, IsRefusal, IsFoundInText, IsFoundInFile}
@@ -48,7 +47,7 @@ text_refused text refusal report never one_fault one_told (fault, refused, tells
 }
 
 -- what is found in a text is found in a file that has it
-pub found_in : {E : Type 0} (loads : Loaded) (file text : List ℕ) (answer : Result (Result Parts made.Report) E) → HasFile loads.files file text → IsRead loads → IfOk answer (IsFoundInText text) → IfOk answer (IsFoundInFile loads file)
+pub found_in : {E : Type 0} (loads : Loaded) (file text : List ℕ) (answer : Result (Result Parts Report) E) → HasFile loads.files file text → IsRead loads → IfOk answer (IsFoundInText text) → IfOk answer (IsFoundInFile loads file)
 found_in loads file text answer has read found = grind arith
 
 -- bytes that are no legal transcript, for any task on one

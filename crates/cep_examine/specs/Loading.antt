@@ -8,9 +8,8 @@ use Rattle.cep_refusal.specs.declared.refusal.Refusal.{Refusal}
 use Rattle.cep_refusal.specs.Told.{Tells}
 use Rattle.cep_ground.specs.Texts.{Spells}
 use Rattle.cep_ground.specs.Refusals.{IsRefusedFor}
-use Rattle.cep_examine.specs.declared.report.Report as made
 use Rattle.cep_examine.specs.Exchange.{Loaded, IsUnread, IsRead}
-use Rattle.cep_examine.specs.Report.{Report, line_report, report_of}
+use Rattle.cep_examine.specs.Report.{Report, line_report}
 use Rattle.cep_examine.specs.Unread.{no_program}
 
 -- P holds of the text of a file: of the one that is there, where the files are told
@@ -47,11 +46,11 @@ ReportsNone loads file report =
     ⊎ (IsUnread loads × (report ≡ line_report no_program 7))
 
 -- what is found in a text: the program that it spells, or the report of its refusal
-abbrev pub IsFoundInText : List ℕ → Result Parts made.Report → Type 0
+abbrev pub IsFoundInText : List ℕ → Result Parts Report → Type 0
 IsFoundInText text (Ok program) = IsSpelledBy program text
-IsFoundInText text (Err report) = IsRefusal text (report_of report)
+IsFoundInText text (Err report) = IsRefusal text report
 
 -- what is found in a file: the program in it, or the report why there is none
-abbrev pub IsFoundInFile : Loaded → List ℕ → Result Parts made.Report → Type 0
+abbrev pub IsFoundInFile : Loaded → List ℕ → Result Parts Report → Type 0
 IsFoundInFile loads file (Ok program) = OfFile loads.files file (IsSpelledBy program) × IsRead loads
-IsFoundInFile loads file (Err report) = ReportsNone loads file (report_of report)
+IsFoundInFile loads file (Err report) = ReportsNone loads file report

@@ -7,7 +7,6 @@ use Rattle.cep_examine.specs.declared.report.Status.{Status}
 use Rattle.cep_examine.specs.declared.report.Status.TheVariants as status
 use Rattle.cep_examine.specs.declared.report.Lines.{Lines}
 use Rattle.cep_examine.specs.declared.report.Lines.TheVariants as lines
-use Rattle.cep_examine.specs.declared.report.Report as made
 
 -- a report: what is written, with nothing read, and the status
 pub record Report : Type 0 where
@@ -43,7 +42,3 @@ code_told State = 4
 abbrev pub bytes_of : Lines → List ℕ
 bytes_of (lines.Fixed line) = line.now
 bytes_of (lines.Text bytes) = bytes
-
--- the report that the code makes
-abbrev pub report_of : made.Report → Report
-report_of report = record { written = bytes_of report.lines; code = code_of report.status }

@@ -1,7 +1,7 @@
 // Reports a transcript whose steps are done in another order.
 ghost use Rattle.std.specs.Prelude.{◌≡◌, IfOk};
 ghost use Rattle.cep_log.specs.Legal.{IsLegal};
-ghost use Rattle.cep_examine.specs.Report.{line_report, report_of};
+ghost use Rattle.cep_examine.specs.Report.{line_report};
 ghost use Rattle.cep_examine.specs.Again.{unfit_text, reordered_report, ReportsReordering};
 
 use crate::report::{Report, Status};
@@ -15,7 +15,7 @@ use std::alloc::{AllocError, Global};
 // The report of the first step of an order that leads to a state that does not fit.
 #[tactic(auto, using(std::proofs::Common::append_assoc))]
 fn report_unfit(alloc: Global, number: u32) -> Result<Report, AllocError>
-    ensures { IfOk result (λ report. report_of report ≡ line_report (unfit_text number) 5) }
+    ensures { IfOk result (λ report. report ≡ line_report (unfit_text number) 5) }
 {
     let mut text = Text::new(alloc);
     text.append(b"unfit ")?;
@@ -26,7 +26,7 @@ fn report_unfit(alloc: Global, number: u32) -> Result<Report, AllocError>
 
 // The report of what a log comes to in an order.
 fn report_reordered(alloc: Global, reordered: Reordered) -> Result<Report, AllocError>
-    ensures { IfOk result (λ report. report_of report ≡ reordered_report reordered) }
+    ensures { IfOk result (λ report. report ≡ reordered_report reordered) }
 {
     match reordered {
         Reordered::Done(text) => Ok(Report::text(text, Status::Done)),
@@ -45,7 +45,7 @@ pub(crate) fn report_reordering(
 ) -> Result<Report, AllocError>
     requires { IsLegal program.now log.now }
     ensures { IfOk result (λ report.
-        ReportsReordering program.now log.now seed (report_of report)) }
+        ReportsReordering program.now log.now seed report) }
 {
     let reordered = reorder(alloc, program, log, seed)?;
     report_reordered(alloc, reordered)

@@ -1,7 +1,6 @@
 // Reports the graph of a transcript.
 ghost use Rattle.std.specs.Prelude.{IfOk};
 ghost use Rattle.cep_log.specs.Legal.{IsLegal};
-ghost use Rattle.cep_examine.specs.Report.{report_of};
 ghost use Rattle.cep_examine.specs.Cause.{ReportsGraph};
 
 use crate::report::{Report, Status};
@@ -19,7 +18,7 @@ pub(crate) fn report_graph(
     log: &Log,
 ) -> Result<Report, AllocError>
     requires { IsLegal program.now log.now }
-    ensures { IfOk result (λ report. ReportsGraph program.now log.now (report_of report)) }
+    ensures { IfOk result (λ report. ReportsGraph program.now log.now report) }
 {
     let causes = graph(alloc, program, log)?;
     let mut text = Text::new(alloc);

@@ -4,7 +4,7 @@ ghost use Rattle.std.specs.List.{AllByRecursion};
 ghost use Rattle.cep_report.specs.ClaimLines.{claim_fault_text};
 ghost use Rattle.cep_weigh.specs.declared.limits.TheConstants.{MOST_CLAIMS};
 ghost use Rattle.cep_weigh.specs.Weights.{IsWeightOf};
-ghost use Rattle.cep_examine.specs.Report.{line_report, code_of, report_of};
+ghost use Rattle.cep_examine.specs.Report.{line_report, code_of};
 ghost use Rattle.cep_examine.specs.Claims.{IsReportOfWeights, ReportsWeighing};
 
 use crate::report::{Report, Status};
@@ -31,7 +31,7 @@ fn report_weights(
     weights: &[Weight],
 ) -> Result<Report, AllocError>
     requires { AllByRecursion (IsWeightOf program.now) weights.now }
-    ensures { IfOk result (λ report. IsReportOfWeights program.now weights.now (report_of report)) }
+    ensures { IfOk result (λ report. IsReportOfWeights program.now weights.now report) }
 {
     let mut text = Text::new(alloc);
     let mut status = Status::Done;
@@ -46,7 +46,7 @@ fn report_weights(
 
 // The report of the first line that says no claim.
 fn report_claim_fault(alloc: Global, fault: KeepFault) -> Result<Report, AllocError>
-    ensures { IfOk result (λ report. report_of report ≡ line_report (claim_fault_text fault) 1) }
+    ensures { IfOk result (λ report. report ≡ line_report (claim_fault_text fault) 1) }
 {
     let mut text = Text::new(alloc);
     put_claim_fault(fault, &mut text)?;
@@ -60,7 +60,7 @@ pub(crate) fn report_claims(
     bytes: &[u8],
 ) -> Result<Report, AllocError>
     requires { length bytes.now ≤ MOST_CLAIMS }
-    ensures { IfOk result (λ report. ReportsWeighing program.now bytes.now (report_of report)) }
+    ensures { IfOk result (λ report. ReportsWeighing program.now bytes.now report) }
 {
     match read_weights(alloc, program, bytes)? {
         Ok(weights) => report_weights(alloc, program, weights.as_slice()),

@@ -1,6 +1,5 @@
 // Reports the dead rules of a program.
 ghost use Rattle.std.specs.Prelude.{IfOk};
-ghost use Rattle.cep_examine.specs.Report.{report_of};
 ghost use Rattle.cep_examine.specs.DeadRules.{ReportsDead};
 
 use crate::report::{Report, Status};
@@ -16,7 +15,7 @@ use std::alloc::{AllocError, Global};
 ///
 /// Memory ran out.
 pub fn report_dead(alloc: Global, program: &Program) -> Result<Report, AllocError>
-    ensures { IfOk result (λ report. ReportsDead program.now (report_of report)) }
+    ensures { IfOk result (λ report. ReportsDead program.now report) }
 {
     let deads = dead(alloc, program)?;
     let mut text = Text::new(alloc);

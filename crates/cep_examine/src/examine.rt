@@ -6,7 +6,7 @@ ghost use Rattle.cep_check.specs.Causes.{IsVerdict};
 ghost use Rattle.cep_check.specs.Telling.{fault_text, IsTellable};
 ghost use Rattle.cep_words.specs.declared.request.Task.TheVariants.{Weigh};
 ghost use Rattle.cep_examine.specs.Exchange.{loaded, AsksFile};
-ghost use Rattle.cep_examine.specs.Report.{line_report, code_of, report_of};
+ghost use Rattle.cep_examine.specs.Report.{line_report, code_of};
 ghost use Rattle.cep_examine.specs.Unread.{no_second};
 ghost use Rattle.cep_examine.specs.Reports.{Reports, most_of, ReportsSecond};
 ghost use Rattle.cep_examine.specs.Outcome.{verdict_code, verdict_report, IsRenewalReport, IsLegalReport, IsLogReport};
@@ -41,7 +41,7 @@ fn status_of(verdict: &Verdict) -> Status
 /// The report of a verdict.
 fn report_verdict(alloc: Global, program: &Program, verdict: &Verdict) -> Result<Report, AllocError>
     requires { IsTellable program.now verdict.now }
-    ensures { IfOk result (λ report. report_of report ≡ verdict_report program.now verdict.now) }
+    ensures { IfOk result (λ report. report ≡ verdict_report program.now verdict.now) }
 {
     let mut text = Text::new(alloc);
     put_verdict(program, verdict, &mut text)?;
@@ -51,7 +51,7 @@ fn report_verdict(alloc: Global, program: &Program, verdict: &Verdict) -> Result
 /// The report of a legal log that is renewed.
 fn report_renewal(alloc: Global, program: &Program, log: &Log) -> Result<Report, AllocError>
     requires { IsLegal program.now log.now }
-    ensures { IfOk result (λ report. IsRenewalReport program.now log.now (report_of report)) }
+    ensures { IfOk result (λ report. IsRenewalReport program.now log.now report) }
 {
     match renew(alloc, program, log)? {
         Some(text) => Ok(Report::text(text, Status::Done)),
@@ -71,7 +71,7 @@ fn report_legal(
     requires of_log { task ≢ Weigh }
     requires verdict { IsVerdict program.now log.now verdict.now }
     requires tellable { IsTellable program.now verdict.now }
-    ensures { IfOk result (λ report. IsLegalReport task program.now log.now (report_of report)) }
+    ensures { IfOk result (λ report. IsLegalReport task program.now log.now report) }
 {
     match task {
         Task::Check => report_verdict(alloc, program, verdict),
@@ -95,7 +95,7 @@ fn report_log<L: Ledger>(
     requires of_program { IsLogOf program.now log.now }
     requires of_log { task ≢ Weigh }
     ensures judged { IfOk result
-        (λ report. IsLogReport task program.now log.now (report_of report)) }
+        (λ report. IsLogReport task program.now log.now report) }
     ensures counted { steps.old ≤ steps.new }
 {
     let verdict = check(alloc, program, log, steps)?;
@@ -107,7 +107,7 @@ fn report_log<L: Ledger>(
 
 /// The report of the first line that does not fit.
 fn report_fault(alloc: Global, fault: LogFault) -> Result<Report, AllocError>
-    ensures { IfOk result (λ report. report_of report ≡ line_report (fault_text fault) 1) }
+    ensures { IfOk result (λ report. report ≡ line_report (fault_text fault) 1) }
 {
     let mut text = Text::new(alloc);
     put_fault(fault, &mut text)?;
@@ -124,7 +124,7 @@ fn report_transcript<L: Ledger>(
 ) -> Result<Report, AllocError>
     requires short { length bytes.now ≤ MOST_LOG }
     requires of_log { task ≢ Weigh }
-    ensures judged { IfOk result (λ report. Reports task program.now bytes.now (report_of report)) }
+    ensures judged { IfOk result (λ report. Reports task program.now bytes.now report) }
     ensures counted { steps.old ≤ steps.new }
 {
     one_log();
@@ -146,7 +146,7 @@ fn report_bytes<L: Ledger>(
     steps: &mut Steps<L>,
 ) -> Result<Report, AllocError>
     requires { length bytes.now ≤ most_of task }
-    ensures judged { IfOk result (λ report. Reports task program.now bytes.now (report_of report)) }
+    ensures judged { IfOk result (λ report. Reports task program.now bytes.now report) }
     ensures counted { steps.old ≤ steps.new }
 {
     match task {
@@ -173,7 +173,7 @@ fn most_of(task: Task) -> usize
 
 // The report that the second file could not be read.
 fn report_unread(task: Task) -> Report
-    ensures { report_of result ≡ line_report (no_second task) 7 }
+    ensures { result ≡ line_report (no_second task) 7 }
 {
     match task {
         Task::Check => Report::line(b"cannot read transcript\n", Status::Unread),
@@ -201,7 +201,7 @@ pub fn report_second<H: Shelf, L: Ledger>(
 ) -> Result<Report, AllocError>
     ensures reported { IfOk result (λ report.
         ReportsSecond (loaded H.files H.asked H.faults shelf.old shelf.new) task program.now
-        second.now (report_of report)) }
+        second.now report) }
     ensures asked { AsksFile (loaded H.files H.asked H.faults shelf.old shelf.new) second.now
         result }
     ensures files { H.files shelf.new ≡ H.files shelf.old }

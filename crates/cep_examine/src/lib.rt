@@ -15,4 +15,4 @@ mod report;
 pub use dead_rules::report_dead;
 pub use examine::report_second;
 pub use loading::{program_in, program_of};
-pub use report::{Lines, Report, Status};
+pub use report::{Report, Status};

@@ -2,7 +2,7 @@
 ghost use Rattle.std.specs.Prelude.{◌≡◌, ◌++◌, IfOk, OnOk};
 ghost use Rattle.cep_lines.specs.Lines.{line};
 ghost use Rattle.cep_examine.specs.Exchange.{loaded, AsksFile};
-ghost use Rattle.cep_examine.specs.Report.{line_report, report_of};
+ghost use Rattle.cep_examine.specs.Report.{line_report};
 ghost use Rattle.cep_examine.specs.Loading.{refusal_text, IsFoundInText, IsFoundInFile};
 
 use crate::report::{Report, Status};
@@ -34,7 +34,7 @@ fn put_refusal(out: &mut Text, refusal: Refusal) -> Result<(), AllocError>
 
 /// The report of a refusal.
 fn report_refusal(alloc: Global, refusal: Refusal) -> Result<Report, AllocError>
-    ensures { IfOk result (λ report. report_of report ≡ line_report (refusal_text refusal) 3) }
+    ensures { IfOk result (λ report. report ≡ line_report (refusal_text refusal) 3) }
 {
     let mut line = Text::new(alloc);
     put_refusal(&mut line, refusal)?;

@@ -2,10 +2,11 @@
 ghost use Rattle.std.specs.Prelude.{◌≡◌, OnErr, IfOk};
 ghost use Rattle.cep_base.specs.Talk.{ConsoleCause};
 ghost use Rattle.cep_examine.specs.Exchange.{talked, Wrote, WrotePrefix};
-ghost use Rattle.cep_examine.specs.Report.{code_of, code_told, bytes_of, report_of};
+ghost use Rattle.cep_examine.specs.Report.{code_of, code_told, bytes_of};
 
 use cep_base::{Console, ConsoleFault, Text};
 use cep_lines::EndWord;
+use std::marker::Model;
 
 /// How a command came out.
 #[derive(Clone, Copy)]
@@ -58,9 +59,9 @@ impl Status {
     }
 }
 
-/// What is written.
+// What is written.
 #[derive(Drop)]
-pub enum Lines {
+enum Lines {
     /// A line that is always the same, so that it needs no memory.
     Fixed(&'static [u8]),
     Text(Text),
@@ -80,14 +81,25 @@ impl Lines {
 /// A report: what is written at once, with nothing read, and the status that goes with it.
 #[derive(Drop)]
 pub struct Report {
-    pub lines: Lines,
-    pub status: Status,
+    lines: Lines,
+    status: Status,
+}
+
+impl Model for Report {
+    ghost use Rattle.cep_examine.specs.Report.{Report as Told, bytes_of, code_of};
+
+    ghost Value = { Told };
+
+    ghost view = { λ report. record {
+      written = bytes_of report.lines;
+      code = code_of report.status;
+    } };
 }
 
 impl Report {
     /// The report of a line that is always the same.
     pub fn line(line: &'static [u8], status: Status) -> Report
-        ensures { report_of result ≡ record { written = line.now; code = code_of status } }
+        ensures { result ≡ record { written = line.now; code = code_of status } }
     {
         let lines = Lines::Fixed(line);
         Report { lines, status }
@@ -95,7 +107,7 @@ impl Report {
 
     /// The report of a text.
     pub fn text(text: Text, status: Status) -> Report
-        ensures { report_of result ≡ record { written = text; code = code_of status } }
+        ensures { result ≡ record { written = text; code = code_of status } }
     {
         let lines = Lines::Text(text);
         Report { lines, status }
@@ -108,10 +120,10 @@ impl Report {
     /// The console failed, or memory ran out in it: a prefix was written.
     pub fn put<C: Console>(&self, console: &mut C) -> Result<u8, ConsoleFault>
         ensures told { IfOk result (λ code.
-            Wrote (talked C.talk C.left console.old console.new) (report_of self.now).written
-            × (code ≡ (report_of self.now).code)) }
+            Wrote (talked C.talk C.left console.old console.new) self.now.written
+            × (code ≡ self.now.code)) }
         ensures begun { OnErr result (WrotePrefix (talked C.talk C.left console.old console.new)
-            (report_of self.now).written) }
+            self.now.written) }
         ensures cause { ConsoleCause (C.faults console.old) (C.faults console.new) result }
     {
         console.put(self.lines.bytes())?;

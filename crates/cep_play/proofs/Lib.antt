@@ -1,4 +1,3 @@
 pub mod Reported
 pub mod Done
 pub mod Playing
-pub mod Judging

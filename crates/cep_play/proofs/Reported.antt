@@ -11,9 +11,8 @@ use Rattle.cep_world.specs.World.{world}
 use Rattle.cep_words.specs.declared.request.Task.{Task}
 use Rattle.cep_words.specs.declared.options.Options.{Options}
 use Rattle.cep_words.specs.Words.{Request, Play, Examine, Dead, World, AskFor, HaveNoForm}
-use Rattle.cep_examine.specs.declared.report.Report as made
 use Rattle.cep_examine.specs.Exchange.{Talked, Loaded, loaded, IsUnread, IsRead, AskedFor, AsksFile}
-use Rattle.cep_examine.specs.Report.{Report, line_report, code_told, report_of}
+use Rattle.cep_examine.specs.Report.{Report, line_report, code_told}
 use Rattle.cep_examine.specs.Unread.{no_program, no_second}
 use Rattle.cep_examine.specs.Loading.{OfFile, IsProgramText, IsSpelledBy, IsRefusal, ReportsNone}
 use Rattle.cep_examine.specs.Reports.{Reports, ReportsSecond}
@@ -128,9 +127,9 @@ module _ {H : Type 0} (files : H → Option Files) (asked : H → Option (List (
   found_so : (report : Report) → ReportsSecond (loaded files asked faults mid new) task program log report → ReportsSecond whole task program log report
   found_so report found = grind arith
 
-  pub examined : {E : Type 0} → AreLow → (ticks ticks' : ℕ) (answer : Result made.Report E) → AsksFile (loaded files asked faults mid new) log answer → IfOk answer (λ report. ReportsSecond (loaded files asked faults mid new) task program log (report_of report))
-      → IfOk answer (λ report. IsReportOf (Examine task file log) whole ticks ticks' (report_of report))
-  examined low ticks ticks' (Ok report) second found = transcript_of whole ticks ticks' (report_of report) low task file log program is_in (both second) (found_so (report_of report) found)
+  pub examined : {E : Type 0} → AreLow → (ticks ticks' : ℕ) (answer : Result Report E) → AsksFile (loaded files asked faults mid new) log answer → IfOk answer (λ report. ReportsSecond (loaded files asked faults mid new) task program log report)
+      → IfOk answer (λ report. IsReportOf (Examine task file log) whole ticks ticks' report)
+  examined low ticks ticks' (Ok report) second found = transcript_of whole ticks ticks' report low task file log program is_in (both second) (found_so report found)
   examined low ticks ticks' (Err error) second found = tt
 
   -- the transcript could not be had for out of memory

@@ -19,7 +19,7 @@ use Rattle.cep_play.specs.declared.reply.Reply.TheVariants as reply
 use Rattle.cep_examine.specs.Exchange.{Talked, Loaded, IsUnread, AskedFor, Went, IsRead}
 use Rattle.cep_examine.specs.Loading.{OfFile, IsSpelledBy, IsRefusal}
 use Rattle.cep_play.specs.Command.{AsksFor, settings_of}
-use Rattle.cep_examine.specs.Report.{Report, report_of}
+use Rattle.cep_examine.specs.Report.{Report}
 use Rattle.cep_play.specs.Outside.{report_due}
 use Rattle.cep_examine.specs.DeadRules.{ReportsDead}
 use Rattle.cep_play.specs.World.{ReportsWorld}
@@ -111,7 +111,7 @@ pub record IsToPlay (words : List (List ℕ)) (loads : Loaded) (program : Parts)
 
 -- what words come to before anything is written
 abbrev pub IsReply : List (List ℕ) → Loaded → ℕ → ℕ → Reply → Type 0
-IsReply words loads ticks ticks' (reply.Report report) = IsReportOn words loads ticks ticks' (report_of report)
+IsReply words loads ticks ticks' (reply.Report report) = IsReportOn words loads ticks ticks' report
 IsReply words loads ticks ticks' (reply.Dialogue program options) = IsToPlay words loads program options × (ticks' ≡ ticks)
 
 -- The command did what is due of its words, with a status that says so, and the counter rose so.

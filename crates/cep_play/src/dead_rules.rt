@@ -1,7 +1,6 @@
 // Reports the dead rules of the program in a file.
 ghost use Rattle.std.specs.Prelude.{◌≡◌, ◌⊎◌, IfOk};
 ghost use Rattle.cep_examine.specs.Exchange.{loaded, AsksFile};
-ghost use Rattle.cep_examine.specs.Report.{report_of};
 ghost use Rattle.cep_examine.specs.Loading.{ReportsNone};
 ghost use Rattle.cep_play.specs.Outcome.{ReportsDeadIn};
 
@@ -16,9 +15,9 @@ pub(crate) fn report_dead_in<H: Shelf>(
     shelf: &mut H,
 ) -> Result<Report, AllocError>
     ensures reported { IfOk result (λ report. ReportsNone
-        (loaded H.files H.asked H.faults shelf.old shelf.new) file.now (report_of report)
+        (loaded H.files H.asked H.faults shelf.old shelf.new) file.now report
         ⊎ ReportsDeadIn (loaded H.files H.asked H.faults shelf.old shelf.new) file.now
-        (report_of report)) }
+        report) }
     ensures asked { AsksFile (loaded H.files H.asked H.faults shelf.old shelf.new) file.now result }
     ensures files { H.files shelf.new ≡ H.files shelf.old }
 {

@@ -2,7 +2,6 @@
 ghost use Rattle.std.specs.Prelude.{◌≡◌, ◌⊎◌, ◌≤◌, IfOk, OnErr};
 ghost use Rattle.cep_words.specs.Words.{Examine};
 ghost use Rattle.cep_examine.specs.Exchange.{loaded};
-ghost use Rattle.cep_examine.specs.Report.{report_of};
 ghost use Rattle.cep_play.specs.Command.{AsksUpTo};
 ghost use Rattle.cep_play.specs.Outcome.{IsReportOf};
 
@@ -26,7 +25,7 @@ pub(crate) fn examine<H: Shelf, L: Ledger>(
 ) -> Result<Report, AllocError>
     ensures reported { IfOk result (λ report. IsReportOf (Examine task file.now second.now)
         (loaded H.files H.asked H.faults shelf.old shelf.new) steps.old steps.new
-        (report_of report)) }
+        report) }
     ensures asked { OnErr result (AsksUpTo (loaded H.files H.asked H.faults shelf.old shelf.new)
         (Examine task file.now second.now) ⊎ (H.asked shelf.new ≡ H.asked shelf.old)) }
     ensures files { H.files shelf.new ≡ H.files shelf.old }

@@ -3,7 +3,6 @@ ghost use Rattle.std.specs.Prelude.{◌≤◌, IfOk};
 ghost use Rattle.cep_base.specs.declared.limits.TheConstants.{MOST_WORLD};
 ghost use Rattle.cep_words.specs.Words.{AreWithin, IsUpTo};
 ghost use Rattle.cep_play.specs.Command.{settings_of};
-ghost use Rattle.cep_examine.specs.Report.{report_of};
 ghost use Rattle.cep_play.specs.Outcome.{ReportsRun, ReportsTour, IsSilentRun};
 
 use crate::play::run;
@@ -49,7 +48,7 @@ fn report_tour<L: Ledger>(
 ) -> Result<Report, AllocError>
     requires { AreWithin options }
     ensures reported { IfOk result (λ report.
-        ReportsRun rooms options program.now steps.old steps.new (report_of report)) }
+        ReportsRun rooms options program.now steps.old steps.new report) }
     ensures counted { steps.old ≤ steps.new }
 {
     let tally = run_silently(alloc, program, options, steps)?;
@@ -69,7 +68,7 @@ pub(crate) fn tour<L: Ledger>(
     requires rooms { IsUpTo MOST_WORLD rooms }
     requires within { AreWithin options }
     ensures reported { IfOk result (λ report.
-        ReportsTour rooms options steps.old steps.new (report_of report)) }
+        ReportsTour rooms options steps.old steps.new report) }
     ensures counted { steps.old ≤ steps.new }
 {
     let text = world_text(alloc, rooms)?;

@@ -5,7 +5,6 @@ use Rattle.cep_base.proofs.Outcomes.{on_err}
 use Rattle.cep_words.specs.Words.{Play}
 use Rattle.cep_examine.specs.Exchange.{talked, loaded, Went}
 use Rattle.cep_play.specs.Command.{settings_of}
-use Rattle.cep_examine.specs.Report.{report_of}
 use Rattle.cep_play.specs.Outcome.{IsPlaySaid}
 use Rattle.cep_play.proofs.Done.{report_done, dialogue_done, cut_off, out_of_memory, report_begun, dialogue_begun}
 use Rattle.cep_play.proofs.command.command.Goals as goal
@@ -13,14 +12,14 @@ use Rattle.cep_play.proofs.command.command.Goals as goal
 pub returns-in-Report-clause-done : goal.returns-in-Report-clause-done
 returns-in-Report-clause-done g c =
     let is = rw c.in-Report.is at c.in_ok-report.ensures.replied in
-    let report = report_of c.in-Report.report in
+    let report = c.in-Report.report in
     IfOk-weaker c.put.result _ _ (λ code told. report_done (map string_bytes c.args.words.now) (talked g.C.Console.talk g.C.Console.left c.args.console.now c.put.new.console) (loaded g.H.Shelf.files g.H.Shelf.asked g.H.Shelf.faults c.args.shelf.now c.reply_to.new.shelf)
     c.args.steps.now c.reply_to.new.steps report code is told.0 told.1) c.put.ensures.told
 
 pub returns-in-Report-clause-cut_short : goal.returns-in-Report-clause-cut_short
 returns-in-Report-clause-cut_short g c =
     let is = rw c.in-Report.is at c.in_ok-report.ensures.replied in
-    let report = report_of c.in-Report.report in
+    let report = c.in-Report.report in
     cut_off c.put.result _ _ (on_err_weaker c.put.result (λ wrote. (
       report_begun (map string_bytes c.args.words.now) (talked g.C.Console.talk g.C.Console.left c.args.console.now c.put.new.console)
           (loaded g.H.Shelf.files g.H.Shelf.asked g.H.Shelf.faults c.args.shelf.now c.reply_to.new.shelf) c.args.steps.now c.reply_to.new.steps report is wrote,

@@ -1,7 +1,6 @@
 use Rattle.std.proofs.Common.{inl, ⊎_elim, inr}
 use Rattle.cep_base.proofs.Outcomes.{on_err}
 use Rattle.cep_examine.specs.Exchange.{loaded}
-use Rattle.cep_examine.specs.Report.{report_of}
 use Rattle.cep_play.proofs.Reported.{none_to_examine, examined, examined_in_vain}
 use Rattle.cep_play.proofs.examine.examine.Goals as goal
 
@@ -19,7 +18,7 @@ returns-in-Ok-clause-asked g c =
 
 pub returns-in-Err-clause-reported : goal.returns-in-Err-clause-reported
 returns-in-Err-clause-reported g c =
-    none_to_examine (loaded g.H.Shelf.files g.H.Shelf.asked g.H.Shelf.faults c.args.shelf.now c.program_in.new.shelf) c.args.steps.now c.args.steps.now (report_of c.in-Err.report) c.args.task c.args.file.now c.args.second.now c.in_ok-program.ensures.asked (rw c.in-Err.is at c.in_ok-program.ensures.found)
+    none_to_examine (loaded g.H.Shelf.files g.H.Shelf.asked g.H.Shelf.faults c.args.shelf.now c.program_in.new.shelf) c.args.steps.now c.args.steps.now c.in-Err.report c.args.task c.args.file.now c.args.second.now c.in_ok-program.ensures.asked (rw c.in-Err.is at c.in_ok-program.ensures.found)
 
 pub returns-in_err-program-clause-asked : goal.returns-in_err-program-clause-asked
 returns-in_err-program-clause-asked g c = on_err c.from_residual.result _ (⊎_elim (λ asked. inl (inr asked)) (λ same. inr same) c.in_err-program.ensures.asked)

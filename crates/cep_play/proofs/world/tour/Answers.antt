@@ -2,7 +2,6 @@ use Rattle.std.proofs.Common.{◌≡◌, inl, inr, ◌∙◌, subst}
 use Rattle.std.proofs.lemmas.Result.{IfOk-weaker}
 use Rattle.cep_world.specs.World.{world}
 use Rattle.cep_examine.specs.Loading.{IsSpelledBy, IsRefusal}
-use Rattle.cep_examine.specs.Report.{report_of}
 use Rattle.cep_play.proofs.world.tour.Goals as goal
 
 pub returns-in-Ok-clause-reported : goal.returns-in-Ok-clause-reported
@@ -14,4 +13,4 @@ returns-in-Ok-clause-reported g c =
 pub returns-clause-reported : goal.returns-clause-reported
 returns-clause-reported g c =
     let text : c.bytes.result.now ≡ world c.args.rooms = c.bytes.ensures ∙ c.in_ok-text.ensures in
-    inl (subst (λ bytes. IsRefusal bytes (report_of c.in-Err.report)) text (rw c.in-Err.is at c.in_ok-program.ensures))
+    inl (subst (λ bytes. IsRefusal bytes c.in-Err.report) text (rw c.in-Err.is at c.in_ok-program.ensures))
