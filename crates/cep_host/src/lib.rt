@@ -3,8 +3,6 @@
 
 mod file_shelf;
 mod std_console;
-#[cfg(test)]
-mod tests;
 
 pub use file_shelf::FileShelf;
 pub use std_console::StdConsole;

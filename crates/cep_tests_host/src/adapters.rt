@@ -1,6 +1,6 @@
 // The adapters over the real system, of which no clause can say what it holds.
-use crate::{FileShelf, StdConsole};
 use cep_base::{Console, Shelf, ShelfFault};
+use cep_host::{FileShelf, StdConsole};
 use std::fs;
 use std::test::Fail;
 
