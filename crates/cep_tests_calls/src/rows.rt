@@ -24,16 +24,22 @@ fn counts(alloc: Global, column: &Column) -> Result<[u32; 3], AllocError>
     Ok([live, sevens, ones(&mask)])
 }
 
-#[test]
-fn a_row_is_found_by_its_argument_until_it_is_removed(rt: HostRuntime) -> Result<(), Fail> {
-    let mut column = Column::new(rt.alloc(), 1)?;
+// The atom of the last of three rows, and what is counted before it is removed and after.
+fn without_last(alloc: Global) -> Result<(u64, [[u32; 3]; 2]), AllocError> {
+    let mut column = Column::new(alloc, 1)?;
     column.add(0, &[7])?;
     column.add(1, &[3])?;
     let last = column.add(2, &[7])?;
-    assert_eq!(rt; column.atom_at(last), 2);
-    assert_eq!(rt; counts(rt.alloc(), &column)?, [3, 2, 1]);
+    let atom = column.atom_at(last);
+    let before = counts(alloc, &column)?;
     column.remove(last);
-    assert_eq!(rt; counts(rt.alloc(), &column)?, [2, 1, 1]);
+    Ok((atom, [before, counts(alloc, &column)?]))
+}
+
+#[test]
+fn a_row_is_found_by_its_argument_until_it_is_removed(rt: HostRuntime) -> Result<(), Fail> {
+    let (atom, counts) = without_last(rt.alloc())?;
+    assert!(rt; atom == 2 && counts == [[3, 2, 1], [2, 1, 1]]);
     Ok(())
 }
 
@@ -42,7 +48,7 @@ fn a_dead_row_is_used_again(rt: HostRuntime) -> Result<(), Fail> {
     let mut column = Column::new(rt.alloc(), 1)?;
     let row = column.add(0, &[7])?;
     column.remove(row);
-    assert_eq!(rt; column.add(1, &[3])?, row);
+    assert!(rt; column.add(1, &[3])? == row);
     Ok(())
 }
 
@@ -102,17 +108,25 @@ fn add_in_turn(column: &mut Column, atom: u64, keys: &[u64]) -> Result<(), Alloc
     Ok(())
 }
 
-// Atoms whose keys are met again after 50 rows, more of them than are looked through one by one.
+// What is counted of atoms with these keys, and one more, and what after that one is gone and others came and went.
+fn replaced(alloc: Global, keys: &[u64]) -> Result<[[u32; 3]; 2], AllocError>
+    requires { length keys.now ≡ 3000 }
+{
+    let mut column = Column::new(alloc, 1)?;
+    let first = column.add(0, &[7])?;
+    add_all(&mut column, 1, keys)?;
+    let before = counts(alloc, &column)?;
+    remove(&mut column, first);
+    add_in_turn(&mut column, 3001, keys)?;
+    add_in_turn(&mut column, 3001, &[3, 4099])?;
+    Ok([before, counts(alloc, &column)?])
+}
+
+// Keys that are met again after 50 rows, in more rows than are looked through one by one.
 #[test]
 fn rows_are_found_by_an_index_while_keys_are_replaced(rt: HostRuntime) -> Result<(), Fail> {
     let keys = keys_in_turn(rt.alloc())?;
-    let mut column = Column::new(rt.alloc(), 1)?;
-    let first = column.add(0, &[7])?;
-    add_all(&mut column, 1, &keys)?;
-    assert_eq!(rt; counts(rt.alloc(), &column)?, [3001, 61, 60]);
-    remove(&mut column, first);
-    add_in_turn(&mut column, 3001, &keys)?;
-    add_in_turn(&mut column, 3001, &[3, 4099])?;
-    assert_eq!(rt; counts(rt.alloc(), &column)?, [3000, 60, 60]);
+    let counts = replaced(rt.alloc(), &keys)?;
+    assert!(rt; counts == [[3001, 61, 60], [3000, 60, 60]]);
     Ok(())
 }

@@ -54,14 +54,23 @@ fn intern_zero(alloc: Global, store: &mut Store) -> Result<u64, AllocError> {
     store.intern(&a)
 }
 
+// The ids of `num (s z)`, twice, of `num z`, and of `num (s z)` again; and how many atoms and terms have one then.
+fn ids_in_turn(alloc: Global) -> Result<([u64; 4], [u64; 2]), AllocError> {
+    let mut store = Store::new(alloc);
+    let ids = [
+        intern_one(alloc, &mut store)?,
+        intern_one(alloc, &mut store)?,
+        intern_zero(alloc, &mut store)?,
+        intern_one(alloc, &mut store)?,
+    ];
+    Ok((ids, [store.atoms(), store.terms()]))
+}
+
 #[test]
 fn an_atom_has_one_id(rt: HostRuntime) -> Result<(), Fail> {
-    let mut store = Store::new(rt.alloc());
-    let id = intern_one(rt.alloc(), &mut store)?;
-    assert_eq!(rt; intern_one(rt.alloc(), &mut store)?, id);
-    assert_ne!(rt; intern_zero(rt.alloc(), &mut store)?, id);
-    assert_eq!(rt; intern_one(rt.alloc(), &mut store)?, id);
-    assert_eq!(rt; (store.atoms(), store.terms()), (2, 2));
+    let ([id, again, other, last], counts) = ids_in_turn(rt.alloc())?;
+    assert!(rt; again == id && other != id && last == id);
+    assert!(rt; counts == [2, 2]);
     Ok(())
 }
 

@@ -101,7 +101,7 @@ fn expect_texts(
     are_texts: bool,
 ) -> Result<(), Fail> {
     for line in lines.split('\n') {
-        assert_eq!(rt; is_text(alloc, kind, line)?, are_texts, "at {}", line);
+        assert!(rt; is_text(alloc, kind, line)? == are_texts, "at {line}");
     }
     Ok(())
 }
