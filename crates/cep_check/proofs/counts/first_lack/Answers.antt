@@ -1,4 +1,4 @@
-use Rattle.std.proofs.Common.{arith}
+use Rattle.std.proofs.Common.{arith, rules}
 use Rattle.cep_check.proofs.Differences.{lacks_here, enough_all}
 use Rattle.cep_check.proofs.counts.first_lack.Goals as goal
 
@@ -7,3 +7,6 @@ returns-then-have-need c = lacks_here c.bags_are_lawful.ensures _ _ c.loop-place
 
 pub returns : goal.returns
 returns c = enough_all c.bags_are_lawful.ensures _ _ c.loop-place.place (omega arith) c.loop-place.invariant
+
+pub loop-place-init : goal.loop-place-init
+loop-place-init c = search rules

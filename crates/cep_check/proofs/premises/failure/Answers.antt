@@ -1,4 +1,4 @@
-use Rattle.std.proofs.Common.{refl}
+use Rattle.std.proofs.Common.{refl, rules}
 use Rattle.cep_term.specs.Tree.{atom_of}
 use Rattle.cep_rule.specs.Instances.{full_instance}
 use Rattle.cep_rule.specs.Derivations.{proof_of}
@@ -10,3 +10,6 @@ returns-in-None c = (
   refl,
   λ proves. (rw c.in-None.is at c.in_ok-atom.ensures) (only_fit c.args.program.now (proof_of c.args.proof.now) (full_instance c.args.values.now (atom_of c.args.back.now)) proves),
 )
+
+pub returns : goal.returns
+returns c = search rules

@@ -1,4 +1,4 @@
-use Rattle.std.proofs.Common.{◌≡◌, true, map, ap, sym, subst, ◌∙◌, arith}
+use Rattle.std.proofs.Common.{◌≡◌, true, map, ap, sym, subst, ◌∙◌, arith, rules}
 use Rattle.std.proofs.lemmas.Grind.{common_steps}
 use Rattle.std.specs.List.{AllByRecursion}
 use Rattle.cep_base.proofs.Lists.{all_weaker}
@@ -51,3 +51,6 @@ sets_of-requires-clause-few_variables c = grind (arith, common_steps)
 
 pub first_empty-requires-clause-premises : goal.first_empty-requires-clause-premises
 first_empty-requires-clause-premises c = grind (arith, common_steps)
+
+pub returns-in-Some : goal.returns-in-Some
+returns-in-Some c = search rules

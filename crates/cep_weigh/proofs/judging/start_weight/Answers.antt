@@ -1,4 +1,4 @@
-use Rattle.std.proofs.Common.{◌≡◌, ◌+◌, ◌≤◌, sym, ap, ◌∙◌, subst, arith}
+use Rattle.std.proofs.Common.{◌≡◌, ◌+◌, ◌≤◌, sym, ap, ◌∙◌, subst, arith, rules}
 use Rattle.std.proofs.lemmas.Int.{ints}
 use Rattle.std.proofs.lemmas.List.{take_all}
 use Rattle.cep_term.specs.Tree.{atom_of}
@@ -34,3 +34,6 @@ returns c =
     let entries = finite.entries c.parts.result.now.start in
     c.loop-i.invariant.value ∙ ap (added (entry_worth c.as_slice-parts.result.now)) (take_all c.loop-i.i entries (omega (arith, finite.len-entries c.parts.result.now.start)))
     ∙ entries_are c.as_slice-parts.result.now entries ∙ (λ i. weight_of (c.as_slice-parts.ensures i) (c.parts.ensures.parts i).start)
+
+pub loop-i-init : goal.loop-i-init
+loop-i-init c = search rules
