@@ -7,9 +7,15 @@ use std::marker::Model;
 use std::slice::Iter;
 
 /// A list that grows at its end.
-#[derive(Drop)]
 pub struct List<T> {
     items: Vec<T>,
+}
+
+impl<T: Drop> Drop for List<T> {
+    fn drop(self) {
+        let List { items } = self;
+        drop(items);
+    }
 }
 
 impl<T> Model for List<T> {

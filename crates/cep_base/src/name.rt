@@ -4,9 +4,15 @@ use std::alloc::{AllocError, Global};
 use std::marker::Model;
 
 /// A name of a program, as the bytes that spell it.
-#[derive(Drop)]
 pub struct Name {
     bytes: Vec<u8>,
+}
+
+impl Drop for Name {
+    fn drop(self) {
+        let Name { bytes } = self;
+        drop(bytes);
+    }
 }
 
 impl Model for Name {

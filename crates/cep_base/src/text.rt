@@ -8,9 +8,15 @@ use std::marker::Model;
 const FIRST_ROOM: usize = 64;
 
 /// Text that grows at its end, as bytes.
-#[derive(Drop)]
 pub struct Text {
     bytes: Vec<u8>,
+}
+
+impl Drop for Text {
+    fn drop(self) {
+        let Text { bytes } = self;
+        drop(bytes);
+    }
 }
 
 impl Model for Text {

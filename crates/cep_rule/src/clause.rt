@@ -12,12 +12,26 @@ use std::marker::Model;
 /// A clause of a backward predicate: as in Ceptre, its head holds where its goals do. Its variables
 /// have names and types, and are numbered from 0 by first occurrence in the head and then the goals,
 /// which is this profile's.
-#[derive(Drop)]
 pub struct Clause {
     pub vars: Names,
     pub kinds: Kinds,
     pub head: Atom,
     pub goals: AtomList,
+}
+
+impl Drop for Clause {
+    fn drop(self) {
+        let Clause {
+            vars,
+            kinds,
+            head,
+            goals,
+        } = self;
+        drop(vars);
+        drop(kinds);
+        drop(head);
+        drop(goals);
+    }
 }
 
 /// A list of clauses, in which those are found whose heads begin in one way.

@@ -9,10 +9,16 @@ use std::cmp::Ordering;
 
 /// An instance of a rule: the rule by its number, with a value for each of its variables, in the
 /// order of the variables' numbers.
-#[derive(Drop)]
 pub struct Offer {
     pub rule: u32,
     pub values: Terms,
+}
+
+impl Drop for Offer {
+    fn drop(self) {
+        let Offer { rule: _, values } = self;
+        drop(values);
+    }
 }
 
 /// Compares two offers by their rule's number, and then by the values from the first variable to the

@@ -19,7 +19,6 @@ pub struct Premise {
 /// right, where its backward premises can be derived. A rule that leaves a stage at quiescence
 /// names the next one. Its variables have names and types, and are numbered from 0 by first
 /// occurrence on the left; that, and the numbers of groups, are this profile's.
-#[derive(Drop)]
 pub struct Rule {
     pub name: Name,
     pub group: u32,
@@ -31,13 +30,40 @@ pub struct Rule {
     pub next: Option<u32>,
 }
 
+impl Drop for Rule {
+    fn drop(self) {
+        let Rule {
+            name,
+            group: _,
+            vars,
+            kinds,
+            premises,
+            backs,
+            right,
+            next: _,
+        } = self;
+        drop(name);
+        drop(vars);
+        drop(kinds);
+        drop(premises);
+        drop(backs);
+        drop(right);
+    }
+}
+
 /// A list of rules.
 pub type Rules = List<Rule>;
 
 /// A list of premises.
-#[derive(Drop)]
 pub struct Premises {
     premises: Vec<Premise>,
+}
+
+impl Drop for Premises {
+    fn drop(self) {
+        let Premises { premises } = self;
+        drop(premises);
+    }
 }
 
 impl Model for Premises {

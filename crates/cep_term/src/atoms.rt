@@ -6,9 +6,15 @@ use std::alloc::{AllocError, Global};
 use std::marker::Model;
 
 /// A list of atoms, as the right side of a rule or the goals of a clause.
-#[derive(Drop)]
 pub struct AtomList {
     atoms: Vec<Atom>,
+}
+
+impl Drop for AtomList {
+    fn drop(self) {
+        let AtomList { atoms } = self;
+        drop(atoms);
+    }
 }
 
 impl Model for AtomList {
@@ -67,7 +73,8 @@ impl AtomList {
     pub(crate) fn into_atoms(self) -> Vec<Atom>
         ensures { map atom_of result.items ≡ self }
     {
-        self.atoms
+        let AtomList { atoms } = self;
+        atoms
     }
 
     /// Adds an atom at the end. After out of memory the list is as before, and the atom is gone.

@@ -10,9 +10,15 @@ use std::marker::Model;
 
 /// The values of the variables of a rule or a clause: for each variable, by its number from 0, a
 /// ground term or none. Ceptre's substitutions, as far as they are known.
-#[derive(Drop)]
 pub struct Binding {
     pub(crate) values: Vec<Option<Term>>,
+}
+
+impl Drop for Binding {
+    fn drop(self) {
+        let Binding { values } = self;
+        drop(values);
+    }
 }
 
 impl Model for Binding {

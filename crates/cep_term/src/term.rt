@@ -30,10 +30,16 @@ pub struct ArgsCell {
 
 /// A predicate by its number, with one term for each argument. Ceptre's atoms; one without
 /// variables may stand in a state.
-#[derive(Drop)]
 pub struct Atom {
     pub pred: u32,
     pub args: Args,
+}
+
+impl Drop for Atom {
+    fn drop(self) {
+        let Atom { pred: _, args } = self;
+        drop(args);
+    }
 }
 
 impl Args {

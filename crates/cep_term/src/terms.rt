@@ -6,9 +6,15 @@ use std::alloc::{AllocError, Global};
 use std::marker::Model;
 
 /// A list of terms, as the values of the variables of a rule or a clause.
-#[derive(Drop)]
 pub struct Terms {
     terms: Vec<Term>,
+}
+
+impl Drop for Terms {
+    fn drop(self) {
+        let Terms { terms } = self;
+        drop(terms);
+    }
 }
 
 impl Model for Terms {
