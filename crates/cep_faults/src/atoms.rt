@@ -146,7 +146,8 @@ pub(crate) fn listed_fault(
         if in_braces && source.stands_for_context(atom) {
             continue;
         }
-        first.note(state_fault(source, AtomRef::of_raw(atom))?);
+        let fault = state_fault(source, AtomRef::of_raw(atom))?;
+        first.note(fault);
     }
     Ok(first.found())
 }

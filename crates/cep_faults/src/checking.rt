@@ -55,7 +55,8 @@ fn contexts_fault(source: &Source) -> Result<Option<Fault>, AllocError>
 {
     let mut first = FirstFault::none();
     for context in source.contexts() {
-        first.note(listed_fault(source, false, context.atoms)?);
+        let fault = listed_fault(source, false, context.atoms)?;
+        first.note(fault);
     }
     Ok(first.found())
 }
@@ -78,7 +79,8 @@ fn traces_fault(source: &Source) -> Result<Option<Fault>, AllocError>
     let mut first = FirstFault::none();
     for trace in source.traces() {
         first.note(use_fault(source, Space::Stages, trace.stage));
-        first.note(begin_fault(source, trace.start)?);
+        let begin = begin_fault(source, trace.start)?;
+        first.note(begin);
         first.note(turns_past(source.text(), trace.limit));
     }
     Ok(first.found())
@@ -89,16 +91,21 @@ fn other_fault(source: &Source) -> Result<Option<Fault>, AllocError>
     requires { length source.now.text ≤ MOST_TEXT }
     ensures { IfOk result (λ first. first ≡ first_in (all_faults source.now)) }
 {
+    let rules = rules_fault(source)?;
+    let clauses = clauses_fault(source)?;
+    let contexts = contexts_fault(source)?;
+    let traces = traces_fault(source)?;
+    let total = total_fault(source)?;
     let mut first = FirstFault::none();
     first.note(predicates_fault(source));
     first.note(cons_fault(source));
-    first.note(rules_fault(source)?);
-    first.note(clauses_fault(source)?);
-    first.note(contexts_fault(source)?);
+    first.note(rules);
+    first.note(clauses);
+    first.note(contexts);
     first.note(uses_fault(source, Space::Stages, source.interactives()));
-    first.note(traces_fault(source)?);
+    first.note(traces);
     first.note(count_past(source));
-    first.note(total_fault(source)?);
+    first.note(total);
     Ok(first.found())
 }
 

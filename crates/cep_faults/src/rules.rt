@@ -72,7 +72,8 @@ pub(crate) fn rules_fault(source: &Source) -> Result<Option<Fault>, AllocError>
 {
     let mut first = FirstFault::none();
     for rule in source.rules() {
-        first.note(rule_fault(source, rule)?);
+        let fault = rule_fault(source, rule)?;
+        first.note(fault);
     }
     Ok(first.found())
 }
@@ -100,7 +101,8 @@ pub(crate) fn clauses_fault(source: &Source) -> Result<Option<Fault>, AllocError
 {
     let mut first = FirstFault::none();
     for clause in source.clauses() {
-        first.note(clause_fault(source, clause)?);
+        let fault = clause_fault(source, clause)?;
+        first.note(fault);
     }
     Ok(first.found())
 }

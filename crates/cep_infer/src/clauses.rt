@@ -42,7 +42,8 @@ pub(crate) fn read_clauses(source: &Source) -> Result<Clauses, AllocError>
 {
     let mut clauses = Clauses::new(source.alloc());
     for item in source.clauses() {
-        clauses.push(clause(source, item)?)?;
+        let clause = clause(source, item)?;
+        clauses.push(clause)?;
     }
     Ok(clauses)
 }

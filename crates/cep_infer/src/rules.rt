@@ -138,7 +138,8 @@ pub(crate) fn read_rules(source: &Source) -> Result<Rules, AllocError>
     let names = source.rule_names();
     let mut rules = Rules::new(source.alloc());
     for i in 0..items.len() {
-        rules.push(rule(source, names[i].bytes(), &items[i])?)?;
+        let rule = rule(source, names[i].bytes(), &items[i])?;
+        rules.push(rule)?;
     }
     Ok(rules)
 }

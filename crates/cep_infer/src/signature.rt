@@ -22,7 +22,8 @@ fn sorts(source: &Source) -> Result<Names, AllocError>
 {
     let mut names = Names::new(source.alloc());
     for span in source.sorts() {
-        names.push(name(source, *span)?)?;
+        let name = name(source, *span)?;
+        names.push(name)?;
     }
     Ok(names)
 }
@@ -32,11 +33,12 @@ fn con_decls(source: &Source) -> Result<Cons, AllocError>
 {
     let mut cons = Cons::new(source.alloc());
     for con in source.cons() {
-        cons.push(Con {
-            name: name(source, con.name)?,
+        let con = Con {
             sort: number(source, Space::Sorts, con.sort)?,
+            name: name(source, con.name)?,
             args: kinds(source, con.args)?,
-        })?;
+        };
+        cons.push(con)?;
     }
     Ok(cons)
 }
@@ -46,11 +48,12 @@ fn pred_decls(source: &Source) -> Result<Preds, AllocError>
 {
     let mut preds = Preds::new(source.alloc());
     for pred in source.preds() {
-        preds.push(PredDecl {
+        let pred = PredDecl {
             name: name(source, pred.name)?,
             kind: pred.kind,
             args: kinds(source, pred.args)?,
-        })?;
+        };
+        preds.push(pred)?;
     }
     Ok(preds)
 }
@@ -72,10 +75,11 @@ pub(crate) fn read_stages(source: &Source) -> Result<Stages, AllocError>
 {
     let mut stages = Stages::new(source.alloc());
     for span in source.stages() {
-        stages.push(Stage {
+        let stage = Stage {
             name: name(source, *span)?,
             interactive: source.is_interactive(*span),
-        })?;
+        };
+        stages.push(stage)?;
     }
     Ok(stages)
 }

@@ -88,7 +88,8 @@ fn side_clash(
         let Some(atom) = elem.atom() else {
             continue;
         };
-        first.note(atom_clash(source, variables, AtomRef::of_raw(atom))?);
+        let clash = atom_clash(source, variables, AtomRef::of_raw(atom))?;
+        first.note(clash);
     }
     Ok(first.found())
 }
@@ -116,7 +117,8 @@ fn clash_among(
 {
     let mut first = FirstFault::none();
     for atom in atoms {
-        first.note(atom_clash(source, variables, AtomRef::of_raw(atom))?);
+        let clash = atom_clash(source, variables, AtomRef::of_raw(atom))?;
+        first.note(clash);
     }
     Ok(first.found())
 }
@@ -151,7 +153,8 @@ fn states_clash(source: &Source, atoms: &[RawAtom]) -> Result<Option<Fault>, All
 {
     let mut first = FirstFault::none();
     for atom in atoms {
-        first.note(lone_clash(source, AtomRef::of_raw(atom))?);
+        let clash = lone_clash(source, AtomRef::of_raw(atom))?;
+        first.note(clash);
     }
     Ok(first.found())
 }
@@ -161,7 +164,8 @@ fn rules_clash(source: &Source) -> Result<Option<Fault>, AllocError>
 {
     let mut first = FirstFault::none();
     for rule in source.rules() {
-        first.note(rule_clash(source, rule.raw)?);
+        let clash = rule_clash(source, rule.raw)?;
+        first.note(clash);
     }
     Ok(first.found())
 }
@@ -171,7 +175,8 @@ fn clauses_clash(source: &Source) -> Result<Option<Fault>, AllocError>
 {
     let mut first = FirstFault::none();
     for clause in source.clauses() {
-        first.note(clause_clash(source, clause)?);
+        let clash = clause_clash(source, clause)?;
+        first.note(clash);
     }
     Ok(first.found())
 }
@@ -181,7 +186,8 @@ fn contexts_clash(source: &Source) -> Result<Option<Fault>, AllocError>
 {
     let mut first = FirstFault::none();
     for context in source.contexts() {
-        first.note(states_clash(source, context.atoms)?);
+        let clash = states_clash(source, context.atoms)?;
+        first.note(clash);
     }
     Ok(first.found())
 }
@@ -191,7 +197,8 @@ fn traces_clash(source: &Source) -> Result<Option<Fault>, AllocError>
 {
     let mut first = FirstFault::none();
     for trace in source.traces() {
-        first.note(states_clash(source, trace.start.listed())?);
+        let clash = states_clash(source, trace.start.listed())?;
+        first.note(clash);
     }
     Ok(first.found())
 }

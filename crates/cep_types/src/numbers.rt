@@ -31,7 +31,8 @@ pub fn kinds(source: &Source, names: &[Span]) -> Result<List<u32>, AllocError>
 {
     let mut kinds = List::new(source.alloc());
     for name in names {
-        kinds.push(number(source, Space::Sorts, *name)?)?;
+        let kind = number(source, Space::Sorts, *name)?;
+        kinds.push(kind)?;
     }
     Ok(kinds)
 }

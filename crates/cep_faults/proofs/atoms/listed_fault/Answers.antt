@@ -18,7 +18,7 @@ loop-atom-preserved c =
       | else-in_braces-via-else-in_braces w ↦ ap (λ (b : Bool). b && stands_for_context source atom) w.if-in_braces.false
     ] in
     noted (listed_faults source c.args.in_braces) [] c.args.atoms.now c.loop-atom.atom-index _ atom _ _ _ c.loop-atom-test.true c.atom-item.is c.loop-atom.invariant
-    (c.in_ok-state_fault.ensures ∙ ap (λ (raw : RawAtom). first_in (state_faults source raw)) c.of_raw.ensures
+    (c.in_ok-fault.ensures ∙ ap (λ (raw : RawAtom). first_in (state_faults source raw)) c.of_raw.ensures
     ∙ ap (λ (b : Bool). first_in (if b then [] else state_faults source atom)) (sym itself))
     c.note.ensures
 

@@ -7,7 +7,7 @@ use Rattle.cep_faults.proofs.checking.contexts_fault.Goals as goal
 pub loop-context-preserved : goal.loop-context-preserved
 loop-context-preserved c =
     noted (λ context. context_faults c.args.source.now (context_item context)) [] c.contexts-context-items.result.now c.loop-context.context-index _ c.context-item.result _ _ _
-    c.loop-context-test.true c.context-item.is c.loop-context.invariant c.in_ok-listed_fault.ensures c.note.ensures
+    c.loop-context-test.true c.context-item.is c.loop-context.invariant c.in_ok-fault.ensures c.note.ensures
 
 pub returns : goal.returns
 returns c =

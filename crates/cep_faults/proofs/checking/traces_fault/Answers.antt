@@ -12,7 +12,7 @@ loop-trace-preserved c =
     let trace = trace_item c.trace-item.result in
     noted (λ trace. trace_faults source (trace_item trace)) [] c.traces-trace-items.result.now c.loop-trace.trace-index _ c.trace-item.result _ _ _ c.loop-trace-test.true c.trace-item.is c.loop-trace.invariant refl
     (noted_then (use_faults source space.Stages trace.stage ++ begin_faults source trace.start) (turns_faults source.text trace.limit) _ _ _ _ _
-    (noted_then (use_faults source space.Stages trace.stage) (begin_faults source trace.start) _ _ _ _ _ c.note.ensures c.use_fault.ensures c.in_ok-begin_fault.ensures c.note-in-loop-trace.ensures) refl
+    (noted_then (use_faults source space.Stages trace.stage) (begin_faults source trace.start) _ _ _ _ _ c.note.ensures c.use_fault.ensures c.in_ok-begin.ensures c.note-in-loop-trace.ensures) refl
     (c.turns_past.ensures ∙ ap (λ (text : List ℕ). first_in (turns_faults text trace.limit)) c.text.ensures) c.note-in-loop-trace-2.ensures)
 
 pub returns : goal.returns

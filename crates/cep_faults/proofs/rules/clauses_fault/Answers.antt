@@ -7,7 +7,7 @@ use Rattle.cep_faults.proofs.rules.clauses_fault.Goals as goal
 pub loop-clause-preserved : goal.loop-clause-preserved
 loop-clause-preserved c =
     noted (λ clause. clause_faults c.args.source.now (clause_item clause)) [] c.clauses-clause-items.result.now c.loop-clause.clause-index _ c.clause-item.result _ _ _
-    c.loop-clause-test.true c.clause-item.is c.loop-clause.invariant c.in_ok-clause_fault.ensures c.note.ensures
+    c.loop-clause-test.true c.clause-item.is c.loop-clause.invariant c.in_ok-fault.ensures c.note.ensures
 
 pub returns : goal.returns
 returns c =

@@ -8,7 +8,7 @@ use Rattle.cep_types.proofs.clashes.clauses_clash.Goals as goal
 
 pub loop-clause-preserved : goal.loop-clause-preserved
 loop-clause-preserved c =
-    foremost_mapped standing (λ clause. scope_clashes c.args.source.now (clause_scope clause)) clause_item c.clauses-clause-items.result.now c.loop-clause.clause-index c.clause-item.result _ _ _ c.loop-clause-test.true c.clause-item.is c.loop-clause.invariant c.in_ok-clause_clash.ensures c.note.ensures
+    foremost_mapped standing (λ clause. scope_clashes c.args.source.now (clause_scope clause)) clause_item c.clauses-clause-items.result.now c.loop-clause.clause-index c.clause-item.result _ _ _ c.loop-clause-test.true c.clause-item.is c.loop-clause.invariant c.in_ok-clash.ensures c.note.ensures
 
 pub returns : goal.returns
 returns c = all_found (λ clause. scope_clashes c.args.source.now (clause_scope clause)) clause_item c.clauses-clause-items.result.now c.loop-clause.clause-index _ _ _ c.loop-clause-test.false c.clauses-clause-items.ensures c.loop-clause.invariant c.found.ensures

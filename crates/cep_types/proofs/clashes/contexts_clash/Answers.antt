@@ -7,7 +7,7 @@ use Rattle.cep_types.proofs.clashes.contexts_clash.Goals as goal
 
 pub loop-context-preserved : goal.loop-context-preserved
 loop-context-preserved c =
-    foremost_mapped standing (λ context. state_clashes c.args.source.now context.atoms) context_item c.contexts-context-items.result.now c.loop-context.context-index c.context-item.result _ _ _ c.loop-context-test.true c.context-item.is c.loop-context.invariant c.in_ok-states_clash.ensures c.note.ensures
+    foremost_mapped standing (λ context. state_clashes c.args.source.now context.atoms) context_item c.contexts-context-items.result.now c.loop-context.context-index c.context-item.result _ _ _ c.loop-context-test.true c.context-item.is c.loop-context.invariant c.in_ok-clash.ensures c.note.ensures
 
 pub returns : goal.returns
 returns c = all_found (λ context. state_clashes c.args.source.now context.atoms) context_item c.contexts-context-items.result.now c.loop-context.context-index _ _ _ c.loop-context-test.false c.contexts-context-items.ensures c.loop-context.invariant c.found.ensures

@@ -13,6 +13,6 @@ pub loop-elem-preserved : goal.loop-elem-preserved
 loop-elem-preserved c =
     let clashes : RawAtom → List Fault = atom_clashes c.args.source.now (type_met c.args.source.now c.args.variables.now.firsts) in
     foremost_flat standing clashes atoms_in c.args.side.now c.loop-elem.elem-index c.elem-item.result _ _ _ c.loop-elem-test.true c.elem-item.is c.loop-elem.invariant
-    (c.in_ok-atom_clash.ensures ∙ ap (λ (atom : RawAtom). first_in (clashes atom)) c.of_raw.ensures ∙ ap first_in (sym (append-nil (clashes c.in-Some.atom.now)))
+    (c.in_ok-clash.ensures ∙ ap (λ (atom : RawAtom). first_in (clashes atom)) c.of_raw.ensures ∙ ap first_in (sym (append-nil (clashes c.in-Some.atom.now)))
     ∙ ap (λ (atoms : List RawAtom). first_in (flat_map clashes atoms)) (sym c.in-Some.ensures))
     c.note.ensures

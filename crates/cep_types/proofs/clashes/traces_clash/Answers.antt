@@ -9,7 +9,7 @@ use Rattle.cep_types.proofs.clashes.traces_clash.Goals as goal
 pub loop-trace-preserved : goal.loop-trace-preserved
 loop-trace-preserved c =
     foremost_mapped standing (λ trace. state_clashes c.args.source.now (start_listed trace.start)) trace_item c.traces-trace-items.result.now c.loop-trace.trace-index c.trace-item.result _ _ _ c.loop-trace-test.true c.trace-item.is c.loop-trace.invariant
-    (rw (← c.listed.ensures) c.in_ok-states_clash.ensures) c.note.ensures
+    (rw (← c.listed.ensures) c.in_ok-clash.ensures) c.note.ensures
 
 pub returns : goal.returns
 returns c = all_found (λ trace. state_clashes c.args.source.now (start_listed trace.start)) trace_item c.traces-trace-items.result.now c.loop-trace.trace-index _ _ _ c.loop-trace-test.false c.traces-trace-items.ensures c.loop-trace.invariant c.found.ensures
