@@ -2,6 +2,7 @@ use Rattle.std.proofs.Common.{◌≡◌, ◌+◌, true, refl, sym, subst, ◌∙
 use Rattle.cep_dead.proofs.finding.dead_by.Goals.{in-Some+in_ok-push, in_default}
 use Rattle.cep_dead.specs.Held.{is_held}
 use Rattle.cep_dead.proofs.Passes.{AreDeadsBelow, passed_over, found, all_found, why_told, pass_told}
+use Rattle.cep_base.proofs.Elements.{contains_at}
 use Rattle.cep_dead.proofs.finding.dead_by.Goals as goal
 
 pub loop-i-preserved : goal.loop-i-preserved
@@ -19,3 +20,6 @@ loop-i-preserved c =
 
 pub returns : goal.returns
 returns c = all_found c.args.program.now (is_held c.args.table.now) c.requires.last c.loop-i.i c.loop-i.deads (omega (arith, c.len-i-end.ensures)) c.loop-i.invariant
+
+pub why_not-requires-clause-of_program : goal.why_not-requires-clause-of_program
+why_not-requires-clause-of_program c = contains_at c.args.program.now.rules c.loop-i.i c.get.result.now c.get.ensures

@@ -6,7 +6,7 @@ use Rattle.cep_rule.specs.Typing.{IsTyped}
 use Rattle.cep_dead.specs.Tables.{IsOpen}
 use Rattle.cep_dead.specs.Rounds.{premises_of}
 use Rattle.cep_dead.specs.Held.{is_held, HasFewArguments}
-use Rattle.cep_dead.proofs.Additions.{rule_premises}
+use Rattle.cep_dead.proofs.Additions.{few_premises, rule_premises}
 use Rattle.cep_dead.proofs.Judgements.{tree_at, typed_short, alone_in_range}
 use Rattle.cep_dead.proofs.Passes.{empty_told, rule_passes}
 use Rattle.cep_dead.proofs.finding.why_not.Goals as goal
@@ -54,3 +54,11 @@ first_empty-requires-clause-premises c = grind (arith, common_steps)
 
 pub returns-in-Some : goal.returns-in-Some
 returns-in-Some c = search rules
+
+pub overflow_add-result : goal.overflow_add-result
+overflow_add-result c =
+    omega (arith, few_premises c.args.program.now c.requires.program c.args.rule.now c.requires.of_program _ (map tree_at c.deref.result.now) _ (ap (map tree_at) c.deref.ensures.value ∙ c.in_ok-premises.ensures) c.in-Some.ensures)
+
+pub overflow_cast-result : goal.overflow_cast-result
+overflow_cast-result c =
+    omega (arith, few_premises c.args.program.now c.requires.program c.args.rule.now c.requires.of_program _ (map tree_at c.deref.result.now) _ (ap (map tree_at) c.deref.ensures.value ∙ c.in_ok-premises.ensures) c.in-Some.ensures)

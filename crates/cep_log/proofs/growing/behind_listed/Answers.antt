@@ -1,5 +1,6 @@
 use Rattle.std.proofs.lemmas.Grind.{common_steps}
 use Rattle.std.proofs.Common.{arith}
+use Rattle.std.proofs.lemmas.List.{length-append}
 use Rattle.std.proofs.lemmas.Result.{IfOk-weaker}
 use Rattle.cep_log.proofs.LineKindLemmas.{nothing_behind_mid, none_weaker}
 use Rattle.cep_log.proofs.growing.behind_listed.Goals as goal
@@ -12,7 +13,7 @@ returns-in_ok-log_listed-in-None-clause-none c =
     c.begun.ensures.none
 
 pub begun-requires : goal.begun-requires
-begun-requires c = grind (arith, common_steps)
+begun-requires c = grind (arith, length-append)
 
 pub returns-in_ok-log_listed-in-None-clause-some : goal.returns-in_ok-log_listed-in-None-clause-some
 returns-in_ok-log_listed-in-None-clause-some c = grind (arith, common_steps)

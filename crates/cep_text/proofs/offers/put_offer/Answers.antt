@@ -1,6 +1,7 @@
 use Rattle.std.proofs.Common.{arith}
 use Rattle.std.proofs.lemmas.Grind.{common_steps}
 use Rattle.cep_text.proofs.Valued.{offer_values, all_declared, rule_as_many}
+use Rattle.cep_base.proofs.Options.{some_there, within_got}
 use Rattle.cep_text.proofs.offers.put_offer.Goals as goal
 
 pub put_values-requires-clause-as_many : goal.put_values-requires-clause-as_many
@@ -13,3 +14,6 @@ put_values-requires-clause-declared c =
 
 pub returns : goal.returns
 returns c = grind (arith, common_steps)
+
+pub get-rule-requires : goal.get-rule-requires
+get-rule-requires c = rw c.parts-parts.ensures.parts (within_got c.args.program.now.rules c.args.offer.now.rule _ (some_there _ _ c.requires).1)

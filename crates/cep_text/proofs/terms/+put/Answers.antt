@@ -2,6 +2,7 @@ use Rattle.std.proofs.Common.{arith, ap}
 use Rattle.std.proofs.lemmas.Grind.{common_steps}
 use Rattle.cep_term.specs.Tree.{tree_of, trees_of}
 use Rattle.cep_text.proofs.Nodes.{enclosed_begun}
+use Rattle.cep_base.proofs.Options.{some_there, within_got}
 use Rattle.cep_text.proofs.terms.+put.Goals as goal
 
 pub put_value-returns-in_err-put_args-in-Cons-clause-err : goal.put_value-returns-in_err-put_args-in-Cons-clause-err
@@ -20,3 +21,6 @@ put_args-returns-in_ok-put_value-in-Cons t c = grind (arith, common_steps)
 
 pub put_value-returns-in_ok-put_args-in-Cons : goal.put_value-returns-in_ok-put_args-in-Cons
 put_value-returns-in_ok-put_args-in-Cons t c = grind (arith, common_steps)
+
+pub put_value-get-requires : goal.put_value-get-requires
+put_value-get-requires t c = within_got c.args.signature.now.cons c.in-App.c _ (some_there _ _ (rw c.in-App.is at c.requires).0).1
