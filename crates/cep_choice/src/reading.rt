@@ -8,7 +8,7 @@ use crate::typed::Typed;
 use cep_base::{Console, ConsoleFault};
 
 /// What one typed line says of a choice.
-#[derive(Clone, Copy, PartialEq, Eq)]
+#[derive(Clone, Copy)]
 pub enum Said {
     /// The line chooses this place, counted from 1.
     Number(u32),
@@ -21,7 +21,7 @@ pub enum Said {
 }
 
 /// What one reading of a line heard, and how many bytes it took.
-#[derive(Clone, Copy, PartialEq, Eq)]
+#[derive(Clone, Copy)]
 pub struct Heard {
     pub said: Said,
     pub taken: u64,

@@ -8,7 +8,7 @@ use crate::reading::Said;
 
 /// A line that is read byte by byte. A number is kept only while it is a place among `n`: a longer
 /// one is larger still.
-#[derive(Clone, Copy, PartialEq, Eq)]
+#[derive(Clone, Copy)]
 pub enum Typed {
     /// No byte yet.
     Empty,

@@ -8,7 +8,7 @@ use Rattle.std.proofs.lemmas.List.Sums.{sum_by-cons}
 use Rattle.std.proofs.lemmas.List.Sorted.{sum_by-IsPermutation, Contains-permutation, IsPermutation-sym}
 use Rattle.cep_base.proofs.Elements.{all_at, all_of, contains_cases, contains_behind, contains_same, contains_right, both_all}
 use Rattle.cep_base.proofs.Lists.{holds_at, some_same, all_mapped, filter_few, all_weaker, all_flat}
-use Rattle.cep_term.specs.Tree.{Tree, AtomTree, IsGroundAtom}
+use Rattle.cep_term.specs.Tree.{Tree, AtomTree, IsGroundAtom, IsAtomInRange}
 use Rattle.cep_term.specs.Multiset.{Multiset, count_of, gathered, IsContained, IsBag, IsOnce, held, difference_of, copies_in}
 use Rattle.cep_rule.proofs.StepLaws.{all_kept}
 use Rattle.cep_rule.specs.declared.rule.Rule.{Rule}
@@ -273,6 +273,15 @@ module _ (laws : RoundLaws) (program : Parts) (kept : IsProgram program) (offer 
   module _ (read : Rule) (numbered : slice_get program.rules offer.rule ≡ Some read) where
     same : rule ≡ read
     same = some_same rule read (sym is.numbered ∙ numbered)
+
+    in_range : (atoms : List AtomTree) → AllByRecursion (IsTyped program.signature rule.kinds) atoms → AllByRecursion (IsAtomInRange (length offer.values)) atoms
+    in_range atoms all = rw (laws.types.as_many program.signature.cons rule.kinds offer.values is.values) (all_weaker (IsTyped program.signature rule.kinds) (IsAtomInRange (length rule.kinds)) atoms (laws.types.in_range program.signature rule.kinds) all)
+
+    pub needed_in_range : AllByRecursion (IsAtomInRange (length offer.values)) (needed_of read)
+    needed_in_range = rw (← same) (in_range (needed_of rule) typed.premises)
+
+    pub right_in_range : AllByRecursion (IsAtomInRange (length offer.values)) read.right
+    right_in_range = rw (← same) (in_range rule.right typed.right)
 
   pub needed_ground : AllByRecursion IsGroundAtom (needed_by program offer)
   needed_ground = rw needed_is (ground (needed_of rule) typed.premises)

@@ -10,7 +10,7 @@ use cep_base::{Console, ConsoleFault};
 use cep_choice::{Said, read_choice};
 
 /// What came of a choice.
-#[derive(Clone, Copy, PartialEq, Eq)]
+#[derive(Clone, Copy)]
 pub enum Choice {
     /// The offer at this place was chosen, counted from 1.
     Place(u32),

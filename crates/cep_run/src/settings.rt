@@ -1,6 +1,6 @@
 /// What holds for a whole run: how many levels a derivation may have, how many turns are done at
 /// most, and the seed of what nobody chooses.
-#[derive(Clone, Copy, PartialEq, Eq)]
+#[derive(Clone, Copy)]
 pub struct Settings {
     pub height: u32,
     pub limit: u32,

@@ -1,7 +1,7 @@
 use cep_lines::EndWord;
 
 /// What a run came to.
-#[derive(Clone, Copy, PartialEq, Eq)]
+#[derive(Clone, Copy)]
 pub struct Tally {
     /// Why it ended.
     pub word: EndWord,

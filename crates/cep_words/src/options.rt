@@ -7,7 +7,7 @@ ghost use Rattle.cep_words.specs.declared.options.Options.{Options};
 use crate::run_option::RunOption;
 
 /// What words may ask of a run. What is not asked has a default.
-#[derive(Clone, Copy, PartialEq, Eq)]
+#[derive(Clone, Copy)]
 pub struct Options {
     /// The seed of what nobody chooses.
     pub seed: Option<u64>,

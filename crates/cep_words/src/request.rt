@@ -11,7 +11,7 @@ use crate::run_option::seed_in;
 use cep_base::limits::MOST_WORLD;
 
 /// What is done with a second file and the program.
-#[derive(Clone, Copy, PartialEq, Eq)]
+#[derive(Clone, Copy)]
 pub enum Task {
     /// A transcript is checked against the program.
     Check,

@@ -8,7 +8,7 @@ use cep_base::limits::{MOST_HEIGHT, MOST_TURNS};
 use cep_round::limits::MOST_PLAYERS;
 
 /// One thing that a word may ask of a run.
-#[derive(Clone, Copy, PartialEq, Eq)]
+#[derive(Clone, Copy)]
 pub enum RunOption {
     /// The seed of what nobody chooses.
     Seed(u64),

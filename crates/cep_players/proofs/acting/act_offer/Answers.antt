@@ -1,4 +1,5 @@
 use Rattle.std.proofs.Common.{refl, arith}
+use Rattle.std.proofs.lemmas.Option.{slice_get_within}
 use Rattle.cep_players.proofs.BlockedLines.{IfOk-weaker, on_err_weaker, did_map, did_same, both_ok}
 use Rattle.cep_players.proofs.Going.{acts_begin, offer_acted, offer_moved}
 use Rattle.cep_players.proofs.acting.act_offer.Goals as goal
@@ -28,3 +29,6 @@ returns-then-turns-limit-clause-acted g c =
     let console = c.args.console.now in
     rw c.over.ensures (did_map g.C.Console.talk g.C.Console.left console console _ _ (λ come events rest nothing. record { rule = is.rule; numbered = is.numbered; stops = omega (arith, c.if-turns-limit.true, c.requires.turns, c.turns.ensures); unwritten = nothing.0; untaken = nothing.1 })
     (did_same g.C.Console.talk g.C.Console.left console console refl refl))
+
+pub act-requires-clause-within : goal.act-requires-clause-within
+act-requires-clause-within g c = slice_get_within _ _ _ (rw c.matcher.ensures.matcher at c.place_in-place.ensures)

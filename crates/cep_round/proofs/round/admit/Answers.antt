@@ -3,11 +3,19 @@ use Rattle.std.proofs.lemmas.Grind.{common_steps}
 use Rattle.std.specs.FinMap as finite
 use Rattle.cep_term.specs.Multiset.{Multiset, IsOnce, IsContained}
 use Rattle.cep_rule.specs.Typing.{is_fact}
-use Rattle.cep_base.proofs.Lists.{take_next}
+use Rattle.cep_base.specs.declared.limits.TheConstants.{MOST_HEIGHT}
+use Rattle.cep_base.proofs.Lists.{take_next, holds_at}
+use Rattle.cep_rule.specs.Offers.{Applies}
+use Rattle.cep_round.proofs.Orders.{of_applies}
 use Rattle.cep_round.specs.Rounds.{used_with, used_after}
 use Rattle.cep_round.proofs.Admitted.{moved_on, true_not_false, used_once, used_within, empty_once, empty_within, few_copies}
 use Rattle.cep_round.proofs.round.admit.Goals as goal
 use Rattle.cep_round.proofs.round.admit.Goals.{then-admitted, else-admitted}
+
+pub used_with-requires-clause-offer : goal.used_with-requires-clause-offer
+used_with-requires-clause-offer c =
+    of_applies c.args.program.now MOST_HEIGHT c.args.state.now c.get.result.now
+    (holds_at (Applies c.args.program.now MOST_HEIGHT c.args.state.now) c.args.chosen.now c.loop-i.i c.get.result.now c.requires.apply c.get.ensures)
 
 pub used_with-requires-clause-once : goal.used_with-requires-clause-once
 used_with-requires-clause-once c =

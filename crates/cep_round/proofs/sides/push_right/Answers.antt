@@ -1,7 +1,10 @@
-use Rattle.std.proofs.Common.{◌∷◌, [], ◌++◌, ap, ◌∙◌}
+use Rattle.std.proofs.Common.{◌∷◌, [], ◌++◌, ap, ◌∙◌, rules}
 use Rattle.cep_term.specs.Tree.{AtomTree, atom_of}
 use Rattle.cep_round.proofs.Rests.{next_right, added_next}
 use Rattle.cep_round.proofs.sides.push_right.Goals as goal
+
+pub loop-i-init : goal.loop-i-init
+loop-i-init c = search rules
 
 pub loop-i-preserved : goal.loop-i-preserved
 loop-i-preserved c =

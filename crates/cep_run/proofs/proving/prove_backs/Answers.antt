@@ -1,5 +1,6 @@
 use Rattle.std.proofs.Common.{◌≡◌, ◌+◌, List, [], length, take, subst, sym, ap, ◌∙◌, arith}
 use Rattle.std.proofs.lemmas.List.{take_all}
+use Rattle.std.proofs.lemmas.Option.{slice_get_within}
 use Rattle.std.specs.Prelude.{slice_get, Some}
 use Rattle.std.specs.List.{AllByRecursion}
 use Rattle.cep_term.specs.Tree.{atom_of, IsGround}
@@ -114,3 +115,6 @@ returns-then-is_empty-clause-ticked g c = λ rule is.
     let none : c.get-rule.result.now.backs ≡ [] = c.is_empty.ensures.0 c.if-is_empty.true in
     let same : c.get-rule.result.now ≡ rule = some_same c.get-rule.result.now rule (sym numbered ∙ is) in
     omega (arith, ap (λ (one : Rule). length one.backs) same, ap length none)
+
+pub get-rule-requires : goal.get-rule-requires
+get-rule-requires g c = rw c.parts.ensures.parts (slice_get_within _ _ c.requires.applies.1.rule c.requires.applies.1.numbered)

@@ -1,4 +1,5 @@
 use Rattle.std.proofs.Common.{refl, sym, ◌∙◌}
+use Rattle.std.proofs.lemmas.Option.{slice_get_within}
 use Rattle.cep_base.proofs.Lists.{some_same}
 use Rattle.cep_rule.specs.Instances.{full_instances}
 use Rattle.cep_run.proofs.Turns.{applied_has_text, next_in_range, all_of_shape}
@@ -31,3 +32,6 @@ returns-clause-lines g c =
       proved = rw (some_same is.rule c.get-rule.result.now (sym is.numbered ∙ numbered)) at is.proved;
       written = rw (c.in_ok-put_step_lines.ensures.ok, c.new-lines.ensures, c.as_slice.ensures) refl;
     }
+
+pub get-rule-requires : goal.get-rule-requires
+get-rule-requires g c = rw c.parts.ensures.parts (slice_get_within _ _ c.requires.applies.1.rule c.requires.applies.1.numbered)

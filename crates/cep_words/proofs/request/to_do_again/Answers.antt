@@ -2,6 +2,7 @@ use Rattle.std.proofs.Common.{◌≡◌, length, [], map, ap, ◌∙◌, ◌∷�
 use Rattle.std.specs.Prelude.{string_bytes, codes}
 use Rattle.std.proofs.lemmas.Slice.Eq.{bytes_eq-Decides}
 use Rattle.cep_words.proofs.OneRequest.{four_items}
+use Rattle.std.proofs.lemmas.Grind.{common_steps}
 use Rattle.cep_words.proofs.request.to_do_again.Goals as goal
 
 pub returns-in_ok-seed-in-len4 : goal.returns-in_ok-seed-in-len4
@@ -15,3 +16,9 @@ returns-in_ok-seed-in-len4 c =
           ∙ ap (λ word. word ∷ string_bytes c.file-item.result ∷ string_bytes c.second-item.result ∷ string_bytes c.seed-item.result ∷ []) again
           ∙ ap (λ word. codes "again" ∷ string_bytes c.file-item.result ∷ string_bytes c.second-item.result ∷ word ∷ []) seed,
     )
+
+pub returns-in_err-seed-in-len4 : goal.returns-in_err-seed-in-len4
+returns-in_err-seed-in-len4 c = grind (arith, common_steps)
+
+pub returns-in_default : goal.returns-in_default
+returns-in_default c = grind (arith, common_steps)

@@ -1,7 +1,8 @@
-use Rattle.std.proofs.Common.{map, ap, ◌∙◌, ◌∷◌, sym, drop, take, length, ◌-◌}
+use Rattle.std.proofs.Common.{map, ap, ◌∙◌, ◌∷◌, sym, drop, take, length, ◌-◌, arith}
 use Rattle.std.proofs.lemmas.Slice.Eq.{bytes_eq-Decides}
 use Rattle.std.specs.Prelude.{string_bytes}
 use Rattle.cep_words.proofs.OneRequest.{two_items, unplayed}
+use Rattle.std.proofs.lemmas.Grind.{common_steps}
 use Rattle.cep_words.proofs.request.to_play.Goals as goal
 
 pub returns-then-eq : goal.returns-then-eq
@@ -25,3 +26,9 @@ returns-else-eq c =
     (λ is.
     let told = sym ((bytes_eq-Decides c.as_str.result.now c.play_word.result.now).1 (c.as_str.ensures.value ∙ is ∙ sym c.play_word.ensures)) ∙ sym c.eq.ensures ∙ c.if-eq.false in
     cc)
+
+pub returns-in_err-options-in-len2-up : goal.returns-in_err-options-in-len2-up
+returns-in_err-options-in-len2-up c = grind (arith, common_steps)
+
+pub returns-in_default : goal.returns-in_default
+returns-in_default c = grind (arith, common_steps)

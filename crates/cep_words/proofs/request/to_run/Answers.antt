@@ -1,7 +1,8 @@
-use Rattle.std.proofs.Common.{map, ap, ◌∙◌, ◌∷◌, sym, drop, take, length, ◌-◌}
+use Rattle.std.proofs.Common.{map, ap, ◌∙◌, ◌∷◌, sym, drop, take, length, ◌-◌, arith}
 use Rattle.std.proofs.lemmas.Slice.Eq.{bytes_eq-Decides}
 use Rattle.std.specs.Prelude.{string_bytes, codes}
 use Rattle.cep_words.proofs.OneRequest.{two_items, unrun}
+use Rattle.std.proofs.lemmas.Grind.{common_steps}
 use Rattle.cep_words.proofs.request.to_run.Goals as goal
 
 pub returns-in-None : goal.returns-in-None
@@ -28,3 +29,9 @@ returns-in-Some c =
     unrun (map string_bytes words) others (string_bytes c.world-item.result) (string_bytes c.rooms-item.result) c.in_ok-options-in-len2-up.options c.in-Some.field-0
     (ap (map string_bytes) (two_items words c.world-item.result c.rooms-item.result c.in-len2-up.len_at_least c.world-item.is c.rooms-item.is))
     c.in_ok-options-in-len2-up.ensures c.in-Some.is
+
+pub returns-in_err-options-in-len2-up : goal.returns-in_err-options-in-len2-up
+returns-in_err-options-in-len2-up c = grind (arith, common_steps)
+
+pub returns-in_default : goal.returns-in_default
+returns-in_default c = grind (arith, common_steps)
