@@ -1,15 +1,10 @@
 //! Runs `ceptre` on the cases of its folder `data`, over fakes of console and shelf, and writes what came of each.
 #![tactic(auto)]
 
-mod bodies;
-mod changes;
 mod command;
-mod draft;
 mod player;
-mod sections;
 mod series;
 mod telling;
-mod texts;
 
 use player::Player;
 use std::fs;

@@ -1,11 +1,8 @@
 // Runs cases.
-use crate::bodies::number_of;
 use crate::command::{status, words_of};
-use crate::draft::{Draft, NO_MEMORY};
-use crate::sections::Section;
 use crate::series::Series;
 use crate::telling::{Name, Outcome, put_written, tell};
-use crate::texts::Texts;
+use cep_case_texts::{Draft, NO_MEMORY, Section, Texts, number_of};
 use cep_fakes::{MemConsole, MemShelf};
 use std::alloc::Global;
 

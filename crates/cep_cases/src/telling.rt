@@ -1,6 +1,6 @@
 // What is written of a case.
-use crate::draft::{Draft, NO_MEMORY};
 use cep_base::Event;
+use cep_case_texts::{Draft, NO_MEMORY};
 use std::alloc::Global;
 
 /// How a call of the command ended, and what it said.
