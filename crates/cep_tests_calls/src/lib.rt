@@ -1,11 +1,7 @@
-//! Tests of single calls, on values that are given here: masks, rows, stores, terms and their texts, generated worlds, what a seed draws, and
-//! the fakes of the outside. What the whole command does is said by the cases of `cep_cases`.
+//! Tests of single calls, on values that are given here: masks, rows, stores, terms and their texts. What the whole command does is said
+//! by the cases of `cep_cases`.
 #![tactic(auto)]
 
-#[cfg(test)]
-mod draws;
-#[cfg(test)]
-mod fakes;
 #[cfg(test)]
 mod masks;
 #[cfg(test)]
@@ -18,5 +14,3 @@ mod stores;
 mod terms;
 #[cfg(test)]
 mod texts;
-#[cfg(test)]
-mod worlds;

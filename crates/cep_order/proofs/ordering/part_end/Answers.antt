@@ -1,4 +1,4 @@
-use Rattle.std.proofs.Common.{inr, ⊎_elim, arith}
+use Rattle.std.proofs.Common.{inl, inr, ⊎_elim, refl, arith}
 use Rattle.std.proofs.lemmas.Bool.{cases_eq}
 use Rattle.cep_order.proofs.SoFar.{barrier_there, no_barrier}
 use Rattle.cep_order.proofs.ordering.part_end.Goals as goal
@@ -35,3 +35,11 @@ returns-after-loop-end c =
       by_itself = λ place low high barrier. absurd (at.invariant.none place low high barrier);
       stops = λ less. absurd (omega (arith, c.loop-end-test.false));
     }
+
+pub returns-then-causes-from : goal.returns-then-causes-from
+returns-then-causes-from c = record {
+  some = omega (arith);
+  within = omega (arith, c.requires);
+  by_itself = λ place low high barrier. (omega (arith, low, high), refl);
+  stops = λ less. inl (barrier_there c.args.causes.now c.args.from c.index-causes-from.result c.requires c.if-causes-from.true);
+}
