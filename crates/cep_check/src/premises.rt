@@ -10,7 +10,8 @@ ghost use Rattle.cep_check.specs.Walking.{IsProofCause, IsOneProofCause, IsProof
 
 use crate::cause::Cause;
 use cep_log::Proofs;
-use cep_rule::{AtomList, Derivation, Program, Terms, height, proves};
+use cep_offer::{height, proves};
+use cep_rule::{AtomList, Derivation, Program, Terms};
 use cep_step::fit_instance;
 use cep_term::Atom;
 use std::alloc::{AllocError, Global};

@@ -8,7 +8,8 @@ use crate::taking::id_of_instance;
 use crate::tokens::Tokens;
 use crate::trace::Trace;
 use cep_base::List;
-use cep_rule::{AtomList, Signature, Terms, is_fact};
+use cep_offer::is_fact;
+use cep_rule::{AtomList, Signature, Terms};
 use cep_term::laws::bags_are_lawful;
 use std::alloc::{AllocError, Global};
 

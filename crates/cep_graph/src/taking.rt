@@ -7,8 +7,9 @@ ghost use Rattle.cep_graph.specs.Queues.{GetsId, KeepsIds};
 ghost use Rattle.cep_graph.specs.Traces.{TakesFor};
 
 use crate::tokens::Tokens;
+use cep_offer::is_fact;
 use cep_order::Numbers;
-use cep_rule::{Premises, Signature, Terms, instance, is_fact};
+use cep_rule::{Premises, Signature, Terms, instance};
 use cep_term::Atom;
 use cep_term::laws::bags_are_lawful;
 use std::alloc::{AllocError, Global};

@@ -7,7 +7,8 @@ ghost use Rattle.cep_text.specs.Writing.{IsBegun};
 ghost use Rattle.cep_lines.specs.Lines.{offer_line, offer_lines};
 
 use cep_base::Text;
-use cep_rule::{Matcher, Offer, Program};
+use cep_offer::Matcher;
+use cep_rule::{Offer, Program};
 use cep_text::put_offer;
 use std::alloc::AllocError;
 

@@ -7,7 +7,7 @@ ghost use Rattle.cep_machine.specs.Configuration.{IsConfigurationOf};
 ghost use Rattle.cep_machine.specs.Asking.{asked_offers, IsAskedIn};
 
 use crate::config::Config;
-use cep_rule::Matcher;
+use cep_offer::Matcher;
 
 impl<M: Matcher> Config<M> {
     /// The group that is asked, as Ceptre's stages do: that of the stage's own rules where one of

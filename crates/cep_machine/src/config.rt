@@ -1,7 +1,7 @@
 ghost use Rattle.std.specs.Prelude.{◌≡◌, ℕ, ◌*◌, ◌+◌, ◌<◌, length};
 ghost use Rattle.cep_base.specs.declared.limits.TheConstants.{MOST_STAGES};
 
-use cep_rule::Matcher;
+use cep_offer::Matcher;
 use cep_step::Spot;
 use cep_term::Bag;
 use std::marker::Model;

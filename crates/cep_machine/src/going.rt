@@ -7,7 +7,8 @@ ghost use Rattle.cep_machine.specs.Stepping.{IsStepChange};
 
 use crate::config::Config;
 use cep_base::Steps;
-use cep_rule::{Matcher, Program};
+use cep_offer::Matcher;
+use cep_rule::Program;
 use cep_step::Change;
 use std::alloc::{AllocError, Global};
 use std::sync::ledger::Ledger;

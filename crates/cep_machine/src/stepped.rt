@@ -1,5 +1,5 @@
 use crate::config::Config;
-use cep_rule::Matcher;
+use cep_offer::Matcher;
 use cep_step::Limit;
 
 /// What a step comes to: the configuration after it; or the one before it, unchanged, with the

@@ -11,7 +11,8 @@ ghost use Rattle.cep_machine.specs.Stepping.{IsAskedAt, IsStepped, config_after,
 use crate::config::Config;
 use crate::stepped::Stepped;
 use cep_base::Steps;
-use cep_rule::{Matcher, Program};
+use cep_offer::Matcher;
+use cep_rule::Program;
 use cep_step::Weighed;
 use std::alloc::{AllocError, Global};
 use std::sync::ledger::Ledger;

@@ -5,8 +5,9 @@ ghost use Rattle.cep_machine.specs.Asking.{asked_offers};
 ghost use Rattle.cep_machine.specs.Stepping.{IsWeighedAt};
 
 use crate::config::Config;
+use cep_offer::Matcher;
+use cep_rule::Program;
 use cep_rule::laws::values_are_small;
-use cep_rule::{Matcher, Program};
 use cep_step::Weighed;
 use std::alloc::{AllocError, Global};
 

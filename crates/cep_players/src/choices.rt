@@ -10,8 +10,8 @@ ghost use Rattle.cep_players.specs.Playing.{ChooseSome};
 
 use cep_base::{Console, ConsoleFault, Text};
 use cep_lines::EndWord;
+use cep_offer::Matcher;
 use cep_round::Offers;
-use cep_rule::Matcher;
 use cep_run::choice::Choice;
 use cep_run::copying::copy_offer;
 use cep_run::deciding::{Spent, ask};

@@ -2,8 +2,9 @@ ghost use Rattle.std.specs.Prelude.{◌≡◌, ◌↔◌, ◌<◌, length, Conta
 ghost use Rattle.cep_rule.specs.Matching.{offers_of};
 ghost use Rattle.cep_round.specs.Rounds.{IsLeastPlace};
 
+use cep_offer::{Matcher, order_offer};
+use cep_rule::Offer;
 use cep_rule::laws::offers_have_one_order;
-use cep_rule::{Matcher, Offer, order_offer};
 
 /// The least place, counted from 0, of the offer in the matcher's list of the group, or `None` if
 /// and only if the list has not got it. It takes no memory.

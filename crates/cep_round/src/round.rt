@@ -17,7 +17,8 @@ use crate::laws::{
 };
 use crate::sides::{push_given, push_needed};
 use cep_base::List;
-use cep_rule::{AtomList, Offer, Program, Signature, gained};
+use cep_offer::gained;
+use cep_rule::{AtomList, Offer, Program, Signature};
 use cep_term::Bag;
 use cep_term::laws::bags_are_lawful;
 use std::alloc::{AllocError, Global};

@@ -9,7 +9,8 @@ ghost use Rattle.cep_rule.specs.Typing.{is_fact};
 ghost use Rattle.cep_round.specs.Sides.{needed_by, given_by, IsOfProgram};
 
 use crate::laws::steps_are_lawful;
-use cep_rule::{AtomList, Offer, Premise, Program, Rule, Signature, Terms, instance, is_fact};
+use cep_offer::is_fact;
+use cep_rule::{AtomList, Offer, Premise, Program, Rule, Signature, Terms, instance};
 use std::alloc::{AllocError, Global};
 
 // Adds the atoms that the offer needs.

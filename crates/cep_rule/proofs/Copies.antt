@@ -1,6 +1,6 @@
 -- Multisets and lists in order that are told by what they hold.
-use Rattle.std.proofs.Common.{◌≡◌, ◌≢◌, ℕ, ◌+◌, Bool, cond, List, [], ◌∷◌, Some, sym, ◌∙◌, arith, true, false, ◌&&◌, ◌++◌, drop, ap, append_assoc, refl, Contains}
-use Rattle.std.specs.Prelude.{fold, slice_get, nat_lt}
+use Rattle.std.proofs.Common.{◌≡◌, ◌≢◌, ℕ, ◌+◌, Bool, cond, List, [], ◌∷◌, Some, sym, ◌∙◌, arith, ap, refl, Contains}
+use Rattle.std.specs.Prelude.{fold}
 use Rattle.std.specs.List.{AllByRecursion}
 use Rattle.std.specs.Ordering.{eq_by_cmp, nat_cmp, ordering_then, ordering_reverse}
 use Rattle.std.specs.FinMap.{get-entries, get-empty, get-insert, get-remove, same_map, IsAntisymmetric, nat_cmp-IsAntisymmetric, slice_cmp-IsAntisymmetric}
@@ -10,8 +10,7 @@ use Rattle.std.specs.declared.cmp.Ordering.{Ordering}
 use Rattle.cep_term.specs.Tree.{AtomTree}
 use Rattle.cep_term.specs.Order.{atom_cmp, tree_cmp}
 use Rattle.cep_term.specs.BagLaws.{BagLaws}
-use Rattle.cep_term.specs.Multiset.{Multiset, count_of, with_count, with_one, gathered, sum_of, IsBag, IsEntry, gained}
-use Rattle.cep_base.proofs.Drops.{drop_at}
+use Rattle.cep_term.specs.Multiset.{Multiset, count_of, with_count, with_one, gathered, sum_of, IsBag, IsEntry}
 use Rattle.cep_base.proofs.Elements.{contains_none, contains_first, contains_behind, contains_cases, all_at}
 use Rattle.std.specs.Cmp.{IsTotalOrder, nat_cmp_total, on_total, then_total}
 use Rattle.std.specs.Cmp.Lexicographic.{slice_cmp, lists_total}
@@ -60,22 +59,6 @@ module _ (laws : BagLaws) where
   -- one more copy
   pub count_more : (bag : Multiset) (a b : AtomTree) → count_of (with_one bag a) b ≡ count_of bag b + one_if (eq_by_cmp atom_cmp a b)
   count_more bag a b = grind (arith, laws.own, laws.others, laws.total, laws.ties)
-
--- Of atoms that are added those that a state gains, one after another.
-
-module _ (laws : BagLaws) (test : AtomTree → Bool) (state fresh : Multiset) (atoms list whole : List AtomTree) where
-  pub none_yet : list ≡ [] → fresh ≡ finite.empty → gained test state atoms ≡ list ++ gained test (sum_of state fresh) atoms
-  none_yet none empty = grind (arith, laws.gained_alike, laws.sum, laws.empty)
-
-  pub skipped : (n : ℕ) (a : AtomTree) → whole ≡ list ++ gained test (sum_of state fresh) (drop n atoms) → slice_get atoms n ≡ Some a → (test a && nat_lt 0 (count_of (sum_of state fresh) a)) ≡ true → whole ≡ list ++ gained test (sum_of state fresh) (drop (n + 1) atoms)
-  skipped n a so_far is held = grind (arith, drop_at)
-
-  pub taken : (n : ℕ) (a : AtomTree) (fresh' : Multiset) (list' : List AtomTree) → whole ≡ list ++ gained test (sum_of state fresh) (drop n atoms) → slice_get atoms n ≡ Some a → (test a && nat_lt 0 (count_of (sum_of state fresh) a)) ≡ false
-      → ((b : AtomTree) → test b ≡ true → count_of fresh' b ≡ count_of (with_one fresh a) b) → list' ≡ list ++ a ∷ []
-      → whole ≡ list' ++ gained test (sum_of state fresh') (drop (n + 1) atoms)
-  taken n a fresh' list' so_far is held more longer =
-      let alike : (b : AtomTree) → test b ≡ true → count_of (with_one (sum_of state fresh) a) b ≡ count_of (sum_of state fresh') b = λ b is'. omega (arith, count_more laws (sum_of state fresh) a b, laws.sum state fresh b, laws.sum state fresh' b, more b is', count_more laws fresh a b) in
-      grind (arith, drop_at atoms n a is, laws.gained_alike test (with_one (sum_of state fresh) a) (sum_of state fresh') (drop (n + 1) atoms) alike, append_assoc)
 
 -- Two lists that are strictly increasing and have the same elements are one list.
 

@@ -94,8 +94,9 @@ fn same_args(one: &Args, values: &[Term], other: &Args, others: &[Term]) -> bool
     }
 }
 
-// Whether two atoms have one instance, each by its own values.
-pub(crate) fn same_instance(one: &Atom, values: &[Term], other: &Atom, others: &[Term]) -> bool
+/// Whether two atoms have one instance, each by its own values. No instance is built, and it takes no
+/// memory.
+pub fn same_instance(one: &Atom, values: &[Term], other: &Atom, others: &[Term]) -> bool
     ensures { IsTrue result ↔ (full_instance (map tree_of values.now) (atom_of one.now)
         ≡ full_instance (map tree_of others.now) (atom_of other.now)) }
 {
@@ -209,8 +210,8 @@ fn are_within_by(args: &Args, values: &[Term], levels: u64) -> bool
     }
 }
 
-// Whether the instance of the atom is fit.
-pub(crate) fn is_fit(atom: &Atom, values: &[Term]) -> bool
+/// Whether the instance of the atom is fit. It is not built, and this takes no memory.
+pub fn is_fit(atom: &Atom, values: &[Term]) -> bool
     ensures { IsTrue result ↔ IsFit (full_instance (map tree_of values.now) (atom_of atom.now)) }
 {
     match all_nodes_by(&atom.args, values) {

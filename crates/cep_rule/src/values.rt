@@ -40,8 +40,8 @@ fn are_arguments(cons: &Cons, sorts: &[u32], args: &Args) -> bool
     }
 }
 
-// Whether the terms are values of these types, one of each.
-pub(crate) fn are_values(cons: &Cons, kinds: &[u32], values: &[Term]) -> bool
+/// Whether the terms are values of these types, one of each. It takes no memory.
+pub fn are_values(cons: &Cons, kinds: &[u32], values: &[Term]) -> bool
     ensures { IsTrue result ↔ AreValues cons.now kinds.now (map tree_of values.now) }
 {
     match kinds {

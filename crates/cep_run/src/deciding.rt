@@ -17,7 +17,8 @@ use cep_base::{Console, ConsoleFault, Text};
 use cep_choice::Draw;
 use cep_lines::put_offers;
 use cep_machine::Config;
-use cep_rule::{Matcher, Program};
+use cep_offer::Matcher;
+use cep_rule::Program;
 use std::alloc::{AllocError, Global};
 
 /// What the decisions of a run have consumed.

@@ -7,7 +7,8 @@ ghost use Rattle.cep_rule.specs.Instances.{full_instance, full_instances, kept_o
 ghost use Rattle.cep_term.specs.Multiset.{without};
 ghost use Rattle.cep_rule.specs.Typing.{is_fact};
 
-use cep_rule::{AtomList, Premise, Rule, Signature, Terms, instance, is_fact};
+use cep_offer::is_fact;
+use cep_rule::{AtomList, Premise, Rule, Signature, Terms, instance};
 use cep_term::Atom;
 use std::alloc::{AllocError, Global};
 

@@ -1,5 +1,0 @@
-use Rattle.std.proofs.Common.{rules}
-use Rattle.cep_rule.proofs.gaining.is_held.Goals as goal
-
-pub returns-else-count-gt0 : goal.returns-else-count-gt0
-returns-else-count-gt0 c = search rules

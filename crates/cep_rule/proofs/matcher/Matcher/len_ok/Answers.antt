@@ -1,5 +1,0 @@
-use Rattle.std.proofs.Common.{rules}
-use Rattle.cep_rule.proofs.matcher.Matcher.len_ok.Goals as goal
-
-pub returns : goal.returns
-returns g c = search rules

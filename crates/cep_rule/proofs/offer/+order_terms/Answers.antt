@@ -1,5 +1,0 @@
-use Rattle.std.proofs.Common.{rules}
-use Rattle.cep_rule.proofs.offer.+order_terms.Goals as goal
-
-pub returns-in_default : goal.returns-in_default
-returns-in_default t c = search rules
