@@ -7,8 +7,8 @@ use Rattle.cep_rule.specs.declared.offer.Offer.{Offer}
 use Rattle.cep_rule.specs.Offers.{Applies}
 use Rattle.cep_rule.specs.Steps.{Spot}
 use Rattle.cep_dead.specs.declared.dead_rule.DeadRule.{DeadRule}
-use Rattle.cep_dead.specs.Rounds.{stage_of, IsDead, IsInSomeRound}
-use Rattle.cep_dead.specs.Moves.{first_spot, AreMoves}
+use Rattle.cep_reach.specs.Rounds.{stage_of, IsDead, IsInSomeRound}
+use Rattle.cep_reach.specs.Moves.{first_spot, AreMoves}
 use Rattle.cep_dead.specs.Whys.{IsWhy}
 
 -- The numbers are strictly increasing.

@@ -1,9 +1,2 @@
-pub mod Tables
-pub mod Rounds
-pub mod Moves
 pub mod Whys
 pub mod Deads
-pub mod Sets
-pub mod Held
-pub mod Judged
-pub mod Adding

@@ -1,18 +1,15 @@
 ghost use Rattle.std.specs.Prelude.{◌≡◌, true, Contains, MatchOption, IfOk};
 ghost use Rattle.std.specs.List.{AllByRecursion};
 ghost use Rattle.cep_rule.specs.Program.{IsProgram};
-ghost use Rattle.cep_dead.specs.Rounds.{RulePasses};
+ghost use Rattle.cep_reach.specs.Rounds.{RulePasses};
 ghost use Rattle.cep_dead.specs.Whys.{IsWhy};
 ghost use Rattle.cep_dead.specs.Deads.{AreDeads, NeverApplies};
-ghost use Rattle.cep_dead.specs.Held.{is_held};
-ghost use Rattle.cep_dead.specs.Adding.{IsLastTable};
+ghost use Rattle.cep_reach.specs.Held.{is_held};
+ghost use Rattle.cep_reach.specs.Adding.{IsLastTable};
 
-use crate::closing::last_table;
 use crate::dead_rule::{DeadRule, DeadWhy, Deads};
-use crate::judging::{first_empty, first_shut};
 use crate::laws::{closed_tables_tell_dead_rules, dead_rules_never_apply};
-use crate::passing::{premises_of, sets_of};
-use crate::table::Table;
+use cep_reach::{Table, first_empty, first_shut, last_table, premises_of, sets_of};
 use cep_rule::{Parts, Program, Rule};
 use std::alloc::{AllocError, Global};
 

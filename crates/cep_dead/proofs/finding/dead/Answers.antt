@@ -1,4 +1,4 @@
-use Rattle.cep_dead.proofs.Passes.{none_applies}
+use Rattle.cep_dead.proofs.Whys.{none_applies}
 use Rattle.cep_dead.proofs.finding.dead.Goals as goal
 
 pub returns-clause-never : goal.returns-clause-never

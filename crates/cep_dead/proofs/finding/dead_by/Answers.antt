@@ -1,7 +1,7 @@
-use Rattle.std.proofs.Common.{◌≡◌, ◌+◌, true, refl, sym, subst, ◌∙◌, arith}
+use Rattle.std.proofs.Common.{◌≡◌, ◌+◌, true, refl, sym, subst, ◌∙◌, arith, rules}
 use Rattle.cep_dead.proofs.finding.dead_by.Goals.{in-Some+in_ok-push, in_default}
-use Rattle.cep_dead.specs.Held.{is_held}
-use Rattle.cep_dead.proofs.Passes.{AreDeadsBelow, passed_over, found, all_found, why_told, pass_told}
+use Rattle.cep_reach.specs.Held.{is_held}
+use Rattle.cep_dead.proofs.Whys.{AreDeadsBelow, passed_over, found, all_found, why_told, pass_told}
 use Rattle.cep_base.proofs.Elements.{contains_at}
 use Rattle.cep_dead.proofs.finding.dead_by.Goals as goal
 
@@ -23,3 +23,6 @@ returns c = all_found c.args.program.now (is_held c.args.table.now) c.requires.l
 
 pub why_not-requires-clause-of_program : goal.why_not-requires-clause-of_program
 why_not-requires-clause-of_program c = contains_at c.args.program.now.rules c.loop-i.i c.get.result.now c.get.ensures
+
+pub loop-i-init : goal.loop-i-init
+loop-i-init c = search rules

@@ -1,4 +1,4 @@
-use Rattle.cep_dead.proofs.Passes.{AreDeadsBelow}
+use Rattle.cep_dead.proofs.Whys.{AreDeadsBelow}
 use Rattle.cep_dead.proofs.finding.dead_by.Given as goal
 
 abbrev pub invariant-loop-i : goal.invariant-loop-i

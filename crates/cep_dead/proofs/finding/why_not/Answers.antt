@@ -3,12 +3,12 @@ use Rattle.std.proofs.lemmas.Grind.{common_steps}
 use Rattle.std.specs.List.{AllByRecursion}
 use Rattle.cep_base.proofs.Lists.{all_weaker}
 use Rattle.cep_rule.specs.Typing.{IsTyped}
-use Rattle.cep_dead.specs.Tables.{IsOpen}
-use Rattle.cep_dead.specs.Rounds.{premises_of}
-use Rattle.cep_dead.specs.Held.{is_held, HasFewArguments}
-use Rattle.cep_dead.proofs.Additions.{few_premises, rule_premises}
-use Rattle.cep_dead.proofs.Judgements.{tree_at, typed_short, alone_in_range}
-use Rattle.cep_dead.proofs.Passes.{empty_told, rule_passes}
+use Rattle.cep_reach.specs.Tables.{IsOpen}
+use Rattle.cep_reach.specs.Rounds.{premises_of}
+use Rattle.cep_reach.specs.Held.{is_held, HasFewArguments}
+use Rattle.cep_reach.proofs.Additions.{few_premises, rule_premises}
+use Rattle.cep_reach.proofs.Judgements.{tree_at, typed_short, alone_in_range}
+use Rattle.cep_dead.proofs.Whys.{empty_told, rule_passes}
 use Rattle.cep_dead.proofs.finding.why_not.Goals as goal
 
 pub sets_of-requires-clause-short : goal.sets_of-requires-clause-short

@@ -1,4 +1,4 @@
-use Rattle.cep_dead.proofs.Reached.{never_applies}
+use Rattle.cep_reach.proofs.Reached.{never_applies}
 use Rattle.cep_dead.proofs.laws.dead_rules_never_apply.Goals as goal
 
 pub returns : goal.returns

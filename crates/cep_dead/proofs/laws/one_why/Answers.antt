@@ -1,5 +1,5 @@
 use Rattle.std.proofs.Common.{◌≡◌, true}
-use Rattle.cep_dead.proofs.Passes.{does_not_pass, same_why}
+use Rattle.cep_dead.proofs.Whys.{does_not_pass, same_why}
 use Rattle.cep_dead.proofs.laws.one_why.Goals as goal
 
 pub returns-clause-shut : goal.returns-clause-shut

@@ -1,0 +1,10 @@
+pub mod Reached
+pub mod Growing
+pub mod Words
+pub mod Rows
+pub mod Deciding
+pub mod Judgements
+pub mod Told
+pub mod Ending
+pub mod Additions
+pub mod Passes
