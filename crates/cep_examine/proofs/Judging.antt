@@ -6,8 +6,8 @@ use Rattle.std.proofs.lemmas.List.{map-append, take_more, flat_map_more}
 use Rattle.cep_base.proofs.Lists.{all_pushed}
 use Rattle.cep_rule.specs.declared.parts.Parts.{Parts}
 use Rattle.cep_report.specs.ClaimLines.{claim_lines_of}
-use Rattle.cep_weigh.specs.declared.weight.Weight.{Weight}
-use Rattle.cep_weigh.specs.declared.weight.Against.{Against}
+use Rattle.cep_claim.specs.declared.weight.Weight.{Weight}
+use Rattle.cep_weigh.specs.declared.against.Against.{Against}
 use Rattle.cep_examine.specs.declared.report.Status.{Status}
 use Rattle.cep_examine.specs.Report.{code_of}
 use Rattle.cep_examine.specs.Claims.{claims_code, IsJudged}

@@ -10,9 +10,9 @@ use Rattle.cep_log.specs.declared.log.Log.{Log}
 use Rattle.cep_log.specs.Transcript.{HasLog}
 use Rattle.cep_cause.specs.declared.reordered.Reordered.{Reordered}
 use Rattle.cep_graph.specs.BySeed.{IsReorderedBy}
-use Rattle.cep_weigh.specs.declared.fault.KeepFault.{KeepFault}
-use Rattle.cep_weigh.specs.declared.weight.Weight.{Weight}
-use Rattle.cep_weigh.specs.declared.weight.Against.{Against}
+use Rattle.cep_claim.specs.declared.fault.KeepFault.{KeepFault}
+use Rattle.cep_claim.specs.declared.weight.Weight.{Weight}
+use Rattle.cep_weigh.specs.declared.against.Against.{Against}
 use Rattle.cep_weigh.specs.Claims.{HasClaims, HasFault}
 use Rattle.cep_weigh.specs.Weights.{KeepsTo, AllKeepTo, IsFirstAgainst}
 use Rattle.cep_examine.specs.Report.{Report}

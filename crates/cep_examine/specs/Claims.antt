@@ -2,10 +2,10 @@
 use Rattle.std.specs.Prelude.{◌≡◌, ◌⊎◌, ℕ, ◌≤◌, ◌<◌, List, [], ◌∷◌, length, map, Option, None, Some, MatchOption}
 use Rattle.std.specs.List.{AllByRecursion, flat_map}
 use Rattle.cep_rule.specs.declared.parts.Parts.{Parts}
-use Rattle.cep_weigh.specs.declared.limits.TheConstants.{MOST_CLAIMS}
-use Rattle.cep_weigh.specs.declared.fault.KeepFault.{KeepFault}
-use Rattle.cep_weigh.specs.declared.weight.Weight.{Weight}
-use Rattle.cep_weigh.specs.declared.weight.Against.{Against}
+use Rattle.cep_claim.specs.declared.limits.TheConstants.{MOST_CLAIMS}
+use Rattle.cep_claim.specs.declared.fault.KeepFault.{KeepFault}
+use Rattle.cep_claim.specs.declared.weight.Weight.{Weight}
+use Rattle.cep_weigh.specs.declared.against.Against.{Against}
 use Rattle.cep_weigh.specs.Weights.{AllKeepTo, IsFirstAgainst}
 use Rattle.cep_weigh.specs.Claims.{HasClaims, HasFault}
 use Rattle.cep_report.specs.ClaimLines.{claim_fault_text, claim_lines_of}

@@ -5,7 +5,7 @@ use Rattle.cep_rule.specs.declared.parts.Parts.{Parts}
 use Rattle.cep_log.specs.declared.log.Log.{Log}
 use Rattle.cep_words.specs.declared.request.Task.{Task}
 use Rattle.cep_words.specs.declared.request.Task.TheVariants.{Check, Renew, Cause, Again, Weigh}
-use Rattle.cep_weigh.specs.declared.limits.TheConstants.{MOST_CLAIMS}
+use Rattle.cep_claim.specs.declared.limits.TheConstants.{MOST_CLAIMS}
 use Rattle.cep_examine.specs.Exchange.{Loaded, IsUnread, IsRead}
 use Rattle.cep_examine.specs.Report.{Report, line_report}
 use Rattle.cep_examine.specs.Unread.{no_second}

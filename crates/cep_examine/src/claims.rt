@@ -2,16 +2,17 @@
 ghost use Rattle.std.specs.Prelude.{◌≡◌, ◌≤◌, length, MatchOption, IfOk};
 ghost use Rattle.std.specs.List.{AllByRecursion};
 ghost use Rattle.cep_report.specs.ClaimLines.{claim_fault_text};
-ghost use Rattle.cep_weigh.specs.declared.limits.TheConstants.{MOST_CLAIMS};
+ghost use Rattle.cep_claim.specs.declared.limits.TheConstants.{MOST_CLAIMS};
 ghost use Rattle.cep_weigh.specs.Weights.{IsWeightOf};
 ghost use Rattle.cep_examine.specs.Report.{line_report, code_of};
 ghost use Rattle.cep_examine.specs.Claims.{IsReportOfWeights, ReportsWeighing};
 
 use crate::report::{Report, Status};
 use cep_base::Text;
+use cep_claim::{KeepFault, Weight};
 use cep_report::{put_claim, put_claim_fault};
 use cep_rule::Program;
-use cep_weigh::{Against, KeepFault, Weight, judge, read_weights};
+use cep_weigh::{Against, judge, read_weights};
 use std::alloc::{AllocError, Global};
 
 // The status after one claim more.

@@ -6,13 +6,13 @@ use Rattle.std.specs.Int.{is_positive}
 use Rattle.cep_rule.specs.declared.parts.Parts.{Parts}
 use Rattle.cep_text.specs.Texts.{pred_name, offer_name}
 use Rattle.cep_lines.specs.Lines.{line}
-use Rattle.cep_weigh.specs.declared.fault.KeepFault.{KeepFault}
-use Rattle.cep_weigh.specs.declared.fault.KeepFault.TheVariants.{Keep, KeepName, KeepTwice, KeepSign}
-use Rattle.cep_weigh.specs.declared.weight.Claim.{Claim}
-use Rattle.cep_weigh.specs.declared.weight.Claim.TheVariants as claim
-use Rattle.cep_weigh.specs.declared.weight.Part.{Part}
-use Rattle.cep_weigh.specs.declared.weight.Weight.{Weight}
-use Rattle.cep_weigh.specs.declared.weight.Against.{Against}
+use Rattle.cep_claim.specs.declared.fault.KeepFault.{KeepFault}
+use Rattle.cep_claim.specs.declared.fault.KeepFault.TheVariants.{Keep, KeepName, KeepTwice, KeepSign}
+use Rattle.cep_claim.specs.declared.weight.Claim.{Claim}
+use Rattle.cep_claim.specs.declared.weight.Claim.TheVariants as claim
+use Rattle.cep_claim.specs.declared.weight.Part.{Part}
+use Rattle.cep_claim.specs.declared.weight.Weight.{Weight}
+use Rattle.cep_weigh.specs.declared.against.Against.{Against}
 use Rattle.cep_weigh.specs.Weights.{weight_of}
 
 -- the line and the name of a fault

@@ -4,13 +4,15 @@ ghost use Rattle.std.specs.List.{AllByRecursion, flat_map, list_all};
 ghost use Rattle.std.specs.Fmt.{signed_decimal};
 ghost use Rattle.std.specs.Int.{is_positive};
 ghost use Rattle.cep_lines.specs.Lines.{line};
-ghost use Rattle.cep_weigh.specs.Weights.{IsWeightOf, IsFactor};
+ghost use Rattle.cep_claim.specs.Factors.{IsFactor};
+ghost use Rattle.cep_weigh.specs.Weights.{IsWeightOf};
 ghost use Rattle.cep_report.specs.ClaimLines.{fault_line, fault_name, claim_fault_text, bound_line, bound_lines, claim_lines_of};
 
 use crate::names::{predicate_name, rule_name};
 use cep_base::Text;
+use cep_claim::{Claim, KeepFault, Part, Weight};
 use cep_rule::Program;
-use cep_weigh::{Against, Claim, KeepFault, Part, Weight, start_weight};
+use cep_weigh::{Against, start_weight};
 use std::alloc::AllocError;
 
 // A number in decimal, with `-` before it if it is negative.

@@ -1,5 +1,5 @@
 -- Factors one after another, and what a claim that is kept says of runs.
-use Rattle.std.proofs.Common.{◌≡◌, ⊎_elim, Bool, true, false, cond, not, ◌&&◌, ◌==◌, ℕ, ◌+◌, ◌*◌, ◌/◌, ◌<◌, ◌≤◌, List, [], ◌∷◌, map, Contains, refl, sym, ap, subst, ◌∙◌, arith, le-div_iff_mul-le, ℤ, pos, ◌+ℤ◌, ◌*ℤ◌, ◌≤ℤ◌, ◌<ℤ◌, length, slice_get, Some, ◌-ℤ◌}
+use Rattle.std.proofs.Common.{◌≡◌, ⊎_elim, Bool, true, false, cond, not, ◌&&◌, ◌==◌, ℕ, ◌+◌, ◌/◌, ◌<◌, ◌≤◌, List, [], ◌∷◌, map, Contains, refl, sym, ap, subst, ◌∙◌, arith, le-div_iff_mul-le, ℤ, pos, ◌+ℤ◌, ◌*ℤ◌, ◌≤ℤ◌, ◌<ℤ◌, length, slice_get, Some, ◌-ℤ◌}
 use Rattle.std.specs.Prelude.{filter, count_by}
 use Rattle.std.proofs.lemmas.Int.{ints}
 use Rattle.std.proofs.lemmas.List.Sums.{sum_by-cons}
@@ -12,11 +12,12 @@ use Rattle.cep_rule.specs.Patterns.{PremiseTree}
 use Rattle.cep_rule.specs.declared.rule.Rule.{Rule}
 use Rattle.cep_rule.specs.declared.parts.Parts.{Parts}
 use Rattle.cep_rule.specs.Step.{Step}
-use Rattle.cep_weigh.specs.declared.weight.Claim.{Claim}
-use Rattle.cep_weigh.specs.declared.weight.Claim.TheVariants.{Most, Fall}
-use Rattle.cep_weigh.specs.declared.weight.Part.{Part}
+use Rattle.cep_claim.specs.declared.weight.Claim.{Claim}
+use Rattle.cep_claim.specs.declared.weight.Claim.TheVariants.{Most, Fall}
+use Rattle.cep_claim.specs.declared.weight.Part.{Part}
 use Rattle.cep_weigh.specs.WeightRuns.{GoesAsClaimed, HoldsOfRun, HoldsOfRuns}
-use Rattle.cep_weigh.specs.Weights.{weighed, copies_of_pred, weight_of, Wants, ArePositive, factors_of, left_sum, right_sum, KeepsTo, AllKeepTo, AreNotNegative}
+use Rattle.cep_claim.specs.Factors.{AreNotNegative}
+use Rattle.cep_weigh.specs.Weights.{weighed, copies_of_pred, weight_of, Wants, ArePositive, factors_of, left_sum, right_sum, KeepsTo, AllKeepTo}
 use Rattle.cep_weigh.proofs.Sums.{weighed_sum, weighed_none, weighed_one, positive_not_negative, part_within, run_falls, run_claimed, run_keeps, run_ends}
 
 -- Sums of factors, one after another, and what bounds the copies of a predicate.

@@ -1,31 +1,25 @@
 -- Lines and numbers of claims that are read, in one way.
-use Rattle.std.proofs.Common.{◌≡◌, ◌⊎◌, inl, inr, ℕ, ◌+◌, ◌<◌, ◌≤◌, List, [], ◌∷◌, ◌++◌, length, refl, sym, ap, ◌∙◌, subst, arith, length-append, append_assoc, slice_get, Bool, false, ◌^◌, ℤ, ◌≢◌, ⊎_elim, suc, true, map, Contains, IsSomeAnd}
+use Rattle.std.proofs.Common.{◌≡◌, ◌⊎◌, inl, inr, ℕ, ◌+◌, ◌<◌, ◌≤◌, List, [], ◌∷◌, ◌++◌, length, refl, sym, ap, ◌∙◌, subst, arith, length-append, append_assoc, slice_get, Bool, false, map}
 use Rattle.std.specs.Prelude.{IsTrue, ◌↔◌}
 use Rattle.std.specs.List.{AllByRecursion}
-use Rattle.std.specs.Int.RustNames.{FitsSigned}
 use Rattle.std.proofs.lemmas.List.{append-nil}
-use Rattle.std.proofs.lemmas.Int.{ints}
 use Rattle.cep_base.specs.declared.kind.PredKind.TheVariants.{Linear}
-use Rattle.cep_base.proofs.Elements.{both_all, contains_cases}
+use Rattle.cep_base.proofs.Elements.{both_all}
 use Rattle.cep_base.proofs.Options.{some_weaker as some_as}
 use Rattle.cep_rule.specs.declared.signature.Signature.{Signature}
-use Rattle.cep_rule.specs.declared.signature.PredDecl.{PredDecl}
 use Rattle.cep_rule.specs.declared.parts.Parts.{Parts}
 use Rattle.cep_rule.specs.Names.{AllDiffer}
-use Rattle.cep_weigh.specs.declared.weight.Part.{Part}
-use Rattle.cep_weigh.specs.declared.weight.Weight.{Weight}
-use Rattle.cep_weigh.specs.declared.weight.Claim.{Claim}
-use Rattle.cep_weigh.specs.declared.fault.KeepFault.{KeepFault}
-use Rattle.cep_weigh.specs.declared.written.NamedPart.{NamedPart}
-use Rattle.cep_weigh.specs.Weights.{IsFactor, AreOfLinear, IsWeightOf}
-use Rattle.cep_weigh.specs.declared.fault.KeepFault.TheVariants.{Keep, KeepName, KeepTwice, KeepSign}
-use Rattle.cep_weigh.specs.Claims.{claim_lines, SaysNothing, IsNamedPart, AreResolved, IsClaimOf, IsClaimFault, AddsLine, AddClaims, HasClaims, HasFault, claim_word, parts_words, IsWrittenAs, IsLinearNamed, SomeIsUnknown, IsResolvedLine, SaysTwice}
-use Rattle.std.specs.Fmt.{signed_decimal}
-use Rattle.std.proofs.lemmas.Fmt.{signed_decimal_injective}
-use Rattle.cep_weigh.specs.declared.written.Written.{Written}
-use lib.Signed.{mag}
-use mir.Syntax.{w64}
-use Rattle.cep_weigh.specs.declared.weight.Claim.TheVariants as claim
+use Rattle.cep_claim.specs.declared.weight.Part.{Part}
+use Rattle.cep_claim.specs.declared.weight.Weight.{Weight}
+use Rattle.cep_claim.specs.declared.fault.KeepFault.{KeepFault}
+use Rattle.cep_claim.specs.declared.written.NamedPart.{NamedPart}
+use Rattle.cep_claim.specs.Factors.{IsFactor}
+use Rattle.cep_weigh.specs.Weights.{AreOfLinear, IsWeightOf}
+use Rattle.cep_claim.specs.declared.fault.KeepFault.TheVariants.{Keep, KeepName, KeepTwice, KeepSign}
+use Rattle.cep_claim.specs.Written.{SaysNothing, IsNamedPart, AreResolved}
+use Rattle.cep_weigh.specs.Claims.{claim_lines, IsClaimOf, IsClaimFault, AddsLine, AddClaims, HasClaims, HasFault, IsResolvedLine, SaysTwice}
+use Rattle.cep_claim.specs.declared.written.Written.{Written}
+use Rattle.cep_claim.proofs.Spelled.{one_written, sum_of_line, none_unknown}
 
 -- The lines that were read so far, and what is said of all of them.
 
@@ -84,70 +78,16 @@ all_of_program program number (line ∷ lines) earlier all add each = all_of_pro
 pub not_twice : (b : Bool) (P Q : Type 0) → (IsTrue b ↔ P) → b ≡ false → Q → (P ⊎ ¬ Q) → ⊥
 not_twice b P Q tells is q given = grind arith
 
--- Factors as numbers: they are small, and each is spelled in one way.
-
-pub small : (z : ℤ) → IsFactor z → mag z < 2 ^ 63
-small z is = grind (arith, ints)
-
-pub fits : (z : ℤ) → IsFactor z → FitsSigned w64 z
-fits z is = record { sfits = small z is }
-
-pub one_factor : (y z : ℤ) → IsFactor y → IsFactor z → signed_decimal y ≡ signed_decimal z → y ≡ z
-one_factor y z is is' e = signed_decimal_injective y z (small y is) (small z is') e
-
 -- A file of claims says one list of claims or has one fault.
 
--- a line is written as one claim
-abbrev head_of : List ℕ → ℕ
-head_of [] = 0
-head_of (byte ∷ bytes) = byte
-
-abbrev first_byte : Claim → ℕ
-first_byte claim.Keep = 107
-first_byte claim.Most = 109
-first_byte claim.Fall = 102
-
-begins : (c : Claim) → head_of (claim_word c) ≡ first_byte c
-begins c = grind arith
-
-one_word : (one other : Claim) → claim_word one ≡ claim_word other → one ≡ other
-one_word one other e = grind (arith, begins)
-
-one_sum : (first : Bool) (parts others : List NamedPart) → AllByRecursion IsNamedPart parts → AllByRecursion IsNamedPart others → parts_words first parts ≡ parts_words first others → parts ≡ others
-one_sum first [] [] each each' e = refl
-one_sum first (part ∷ parts) (other ∷ others) each each' e = grind (arith, one_factor part.factor other.factor each.0.factor each'.0.factor cc, one_sum false parts others each.1 each'.1 cc)
-one_sum first parts others each each' e = absurd cc
-
-one_written : (line : List ℕ) (one other : Written) → IsWrittenAs line one → IsWrittenAs line other → one ≡ other
-one_written line one other is is' = grind (arith, sym is.words ∙ is'.words, one_word one.claim other.claim cc, one_sum true one.parts other.parts is.writable.parts is'.writable.parts cc)
-
--- a name is that of one predicate
-abbrev Named : List PredDecl → ℕ → List ℕ → Type 0
-Named preds pred name = IsSomeAnd (slice_get preds pred) (λ decl. (decl.name ≡ name) × (decl.kind ≡ Linear))
-
-among : (preds : List PredDecl) (pred : ℕ) (name other : List ℕ) → AllByRecursion (λ next. other ≢ next) (map (λ decl. decl.name) preds) → Named preds pred name → other ≡ name → ⊥
-among (decl ∷ preds) (suc pred) name other apart is e = among preds pred name other apart.1 is e
-among preds pred name other apart is e = grind arith
-
-one_pred : (preds : List PredDecl) (one other : ℕ) (name : List ℕ) → AllDiffer (map (λ decl. decl.name) preds) → Named preds one name → Named preds other name → one ≡ other
-one_pred (decl ∷ preds) (suc one) (suc other) name differ is is' = ap suc (one_pred preds one other name differ.1 is is')
-one_pred preds one other name differ is is' = grind (arith, among)
-
 module _ (signature : Signature) (differ : AllDiffer (map (λ decl. decl.name) signature.preds)) where
-  one_numbering : (parts : List NamedPart) (one other : List Part) → AreResolved signature parts one → AreResolved signature parts other → one ≡ other
-  one_numbering (named ∷ parts) (part ∷ one) (part' ∷ other) are are' = grind (arith, one_pred signature.preds part.pred part'.pred named.name differ are.1 are'.1, are.0 ∙ sym are'.0, one_numbering parts one other are.2 are'.2)
-  one_numbering parts one other are are' = grind arith
-
-  sum_of_line : (line : List ℕ) (one other : Written) (sum sum' : List Part) → IsWrittenAs line one → IsWrittenAs line other → AreResolved signature one.parts sum → AreResolved signature other.parts sum' → sum ≡ sum'
-  sum_of_line line one other sum sum' is is' are are' = grind (arith, one_numbering, one_written, other.parts)
-
   -- a line says one claim
   one_claim : (earlier : List Weight) (line : List ℕ) (number : ℕ) (one other : Weight) → IsClaimOf signature earlier line number one → IsClaimOf signature earlier line number other → one ≡ other
   one_claim earlier line number one other is is' =
       let same = one_written line is.written is'.written is.line_is is'.line_is in
       let lines : one.line ≡ other.line = is.number_is ∙ sym is'.number_is in
       let claims : one.claim ≡ other.claim = is.claim_is ∙ ap (λ (w : Written). w.claim) same ∙ sym is'.claim_is in
-      let sums : one.sum ≡ other.sum = sum_of_line line is.written is'.written one.sum other.sum is.line_is is'.line_is is.numbered is'.numbered in
+      let sums : one.sum ≡ other.sum = sum_of_line signature differ line is.written is'.written one.sum other.sum is.line_is is'.line_is is.numbered is'.numbered in
       λ i. record { line = lines i; claim = claims i; name = (is.name_is ∙ ap (λ (w : Written). w.name) same ∙ sym is'.name_is) i; sum = sums i }
 
   one_line : (number : ℕ) (line : List ℕ) (earlier one other : List Weight) → AddsLine signature number line earlier one → AddsLine signature number line earlier other → one ≡ other
@@ -161,39 +101,28 @@ module _ (signature : Signature) (differ : AllDiffer (map (λ decl. decl.name) s
   one_adding number (line ∷ lines) earlier one other a b = one_adding (number + 1) lines b.0 one other (subst (λ after. AddClaims signature (number + 1) lines after one) (one_line number line earlier a.0 b.0 a.1 b.1) a.2) b.2
 
   -- a line has one fault, and then it says no claim
-  known_at : (parts : List NamedPart) (sum : List Part) (named : NamedPart) → AreResolved signature parts sum → Contains parts named → (pred : ℕ) × IsLinearNamed signature pred named.name
-  known_at (first ∷ parts) (part ∷ sum) named are there =
-      ⊎_elim (λ (same : first ≡ named). (part.pred, subst (λ (p : NamedPart). IsLinearNamed signature part.pred p.name) same are.1))
-      (λ later. known_at parts sum named are.2 later) (contains_cases first parts named there)
-  known_at parts sum named are there = grind arith
-
-  none_unknown : (line : List ℕ) (one other : Written) (sum : List Part) → IsWrittenAs line one → IsWrittenAs line other → AreResolved signature other.parts sum → ¬ SomeIsUnknown signature one.parts
-  none_unknown line one other sum is is' are unknown =
-      let known = known_at other.parts sum unknown.0 are (subst (λ (w : Written). Contains w.parts unknown.0) (one_written line one other is is') unknown.1) in
-      unknown.2 known.0 known.1
-
   twice_too : (earlier : List Weight) (line : List ℕ) (one other : IsResolvedLine signature line) → SaysTwice earlier one → SaysTwice earlier other
-  twice_too earlier line one other given = grind (arith, one_written, sum_of_line)
+  twice_too earlier line one other given = grind (arith, one_written, sum_of_line signature differ)
 
   known_of : (earlier : List Weight) (line : List ℕ) (number : ℕ) (weight : Weight) → IsClaimOf signature earlier line number weight → IsResolvedLine signature line
   known_of earlier line number weight is = record { written = is.written; line_is = is.line_is; sum = weight.sum; numbered = is.numbered }
 
   claim_or_fault : (earlier : List Weight) (line : List ℕ) (number at : ℕ) (weight : Weight) (fault : KeepFault) → IsClaimOf signature earlier line number weight → IsClaimFault signature earlier line at fault → ⊥
-  claim_or_fault earlier line number at weight fault is why = grind (arith, none_unknown, twice_too, known_of, one_written, sum_of_line)
+  claim_or_fault earlier line number at weight fault is why = grind (arith, none_unknown signature differ, twice_too, known_of, one_written, sum_of_line signature differ)
 
   one_fault : (earlier : List Weight) (line : List ℕ) (at : ℕ) (one other : KeepFault) → IsClaimFault signature earlier line at one → IsClaimFault signature earlier line at other → one ≡ other
   one_fault earlier line at (Keep n) (Keep m) a b = ap Keep (a.0 ∙ sym b.0)
   one_fault earlier line at (Keep n) (KeepName m) a b = absurd (a.1 b.1.0 b.1.1)
   one_fault earlier line at (KeepName n) (Keep m) a b = absurd (b.1 a.1.0 a.1.1)
   one_fault earlier line at (KeepName n) (KeepName m) a b = ap KeepName (a.0 ∙ sym b.0)
-  one_fault earlier line at (KeepName n) (KeepTwice m) a b = absurd (none_unknown line a.1.0 b.1.0.written b.1.0.sum a.1.1 b.1.0.line_is b.1.0.numbered a.1.2)
-  one_fault earlier line at (KeepName n) (KeepSign m) a b = absurd (none_unknown line a.1.0 b.1.0.written b.1.0.sum a.1.1 b.1.0.line_is b.1.0.numbered a.1.2)
+  one_fault earlier line at (KeepName n) (KeepTwice m) a b = absurd (none_unknown signature differ line a.1.0 b.1.0.written b.1.0.sum a.1.1 b.1.0.line_is b.1.0.numbered a.1.2)
+  one_fault earlier line at (KeepName n) (KeepSign m) a b = absurd (none_unknown signature differ line a.1.0 b.1.0.written b.1.0.sum a.1.1 b.1.0.line_is b.1.0.numbered a.1.2)
   one_fault earlier line at (KeepTwice n) (Keep m) a b = absurd (b.1 a.1.0.written a.1.0.line_is)
-  one_fault earlier line at (KeepTwice n) (KeepName m) a b = absurd (none_unknown line b.1.0 a.1.0.written a.1.0.sum b.1.1 a.1.0.line_is a.1.0.numbered b.1.2)
+  one_fault earlier line at (KeepTwice n) (KeepName m) a b = absurd (none_unknown signature differ line b.1.0 a.1.0.written a.1.0.sum b.1.1 a.1.0.line_is a.1.0.numbered b.1.2)
   one_fault earlier line at (KeepTwice n) (KeepTwice m) a b = ap KeepTwice (a.0 ∙ sym b.0)
   one_fault earlier line at (KeepTwice n) (KeepSign m) a b = absurd (b.1.1 (twice_too earlier line a.1.0 b.1.0 a.1.1))
   one_fault earlier line at (KeepSign n) (Keep m) a b = absurd (b.1 a.1.0.written a.1.0.line_is)
-  one_fault earlier line at (KeepSign n) (KeepName m) a b = absurd (none_unknown line b.1.0 a.1.0.written a.1.0.sum b.1.1 a.1.0.line_is a.1.0.numbered b.1.2)
+  one_fault earlier line at (KeepSign n) (KeepName m) a b = absurd (none_unknown signature differ line b.1.0 a.1.0.written a.1.0.sum b.1.1 a.1.0.line_is a.1.0.numbered b.1.2)
   one_fault earlier line at (KeepSign n) (KeepTwice m) a b = absurd (a.1.1 (twice_too earlier line b.1.0 a.1.0 b.1.1))
   one_fault earlier line at (KeepSign n) (KeepSign m) a b = ap KeepSign (a.0 ∙ sym b.0)
   one_fault earlier line at one other a b = absurd (a.1 b.1.0.written b.1.0.line_is)

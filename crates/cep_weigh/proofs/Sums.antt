@@ -6,11 +6,12 @@ use Rattle.std.proofs.lemmas.Bool.{eqb-true, eqb-false, ne_eqb, false≢true}
 use Rattle.std.proofs.Math.IntN.{*ℤ-zero}
 use Rattle.cep_base.proofs.Elements.{contains_none, contains_cases, all_at}
 use Rattle.cep_base.proofs.Lists.{take_next, all_weaker}
-use Rattle.cep_weigh.specs.declared.weight.Claim.{Claim}
-use Rattle.cep_weigh.specs.declared.weight.Part.{Part}
-use Rattle.cep_weigh.proofs.Lined.{fits}
+use Rattle.cep_claim.specs.declared.weight.Claim.{Claim}
+use Rattle.cep_claim.specs.declared.weight.Part.{Part}
+use Rattle.cep_claim.proofs.Spelled.{fits}
 use Rattle.cep_weigh.proofs.Worths.{copies_sum, copies_gathered, copies_once}
-use Rattle.cep_weigh.specs.Weights.{weighed, Wants, AreNotNegative, ArePositive, factor_of, factors_of, IsFactor, HaveOwnPredicates, copies_of_pred, used_of, made_of, weight_of, left_sum, right_sum, AllKeepTo, AreOfLinear}
+use Rattle.cep_claim.specs.Factors.{AreNotNegative, IsFactor, HaveOwnPredicates}
+use Rattle.cep_weigh.specs.Weights.{weighed, Wants, ArePositive, factor_of, factors_of, copies_of_pred, used_of, made_of, weight_of, left_sum, right_sum, AllKeepTo, AreOfLinear}
 use Rattle.std.specs.Prelude.{filter, if◌then◌else◌, sum_by, count_by}
 use Rattle.std.proofs.lemmas.List.Sums.{sum_by-cons, sum_by-append}
 use mir.Syntax.{w64}
@@ -26,7 +27,7 @@ use Rattle.cep_rule.specs.Step.{Step}
 use Rattle.cep_base.specs.declared.kind.PredKind.TheVariants.{Linear}
 use Rattle.cep_rule.specs.Instances.{full_instance, full_instances}
 use Rattle.cep_rule.specs.declared.parts.Parts.{Parts}
-use Rattle.cep_weigh.specs.declared.weight.Claim.TheVariants.{Keep, Most, Fall}
+use Rattle.cep_claim.specs.declared.weight.Claim.TheVariants.{Keep, Most, Fall}
 use Rattle.cep_weigh.specs.WeightRuns.{Follows, IsRun, GoesAsClaimed}
 
 -- Weighed sums: how they change, and that they are not negative.

@@ -6,9 +6,9 @@ use Rattle.cep_term.specs.Multiset.{Multiset}
 use Rattle.cep_rule.specs.declared.rule.Rule.{Rule}
 use Rattle.cep_rule.specs.declared.parts.Parts.{Parts}
 use Rattle.cep_rule.specs.Step.{Step}
-use Rattle.cep_weigh.specs.declared.weight.Claim.{Claim}
-use Rattle.cep_weigh.specs.declared.weight.Claim.TheVariants.{Keep, Most, Fall}
-use Rattle.cep_weigh.specs.declared.weight.Part.{Part}
+use Rattle.cep_claim.specs.declared.weight.Claim.{Claim}
+use Rattle.cep_claim.specs.declared.weight.Claim.TheVariants.{Keep, Most, Fall}
+use Rattle.cep_claim.specs.declared.weight.Part.{Part}
 use Rattle.cep_weigh.specs.Weights.{weight_of, copies_of_pred, Wants, ArePositive}
 
 -- One state follows another: by a step of some rule of the program, with some values for its variables.

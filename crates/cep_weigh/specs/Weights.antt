@@ -1,5 +1,5 @@
 -- Weights: what the parts of a claim make of a state and of the two sides of a rule, and what the claim wants.
-use Rattle.std.specs.Prelude.{◌≡◌, ℕ, ◌<◌, ◌==◌, ◌&&◌, if◌then◌else◌, not, List, [], ◌∷◌, sum_by, count_by, slice_get, Some, IsSomeAnd, ℤ, pos, ◌+ℤ◌, ◌*ℤ◌, ◌≤ℤ◌, ◌<ℤ◌, neg_ℤ}
+use Rattle.std.specs.Prelude.{◌≡◌, ℕ, ◌<◌, ◌==◌, ◌&&◌, if◌then◌else◌, not, List, [], ◌∷◌, sum_by, count_by, slice_get, Some, IsSomeAnd, ℤ, pos, ◌+ℤ◌, ◌*ℤ◌, ◌≤ℤ◌, ◌<ℤ◌}
 use Rattle.std.specs.List.{AllByRecursion}
 use Rattle.std.specs.FinMap as finite
 use Rattle.cep_base.specs.declared.kind.PredKind.TheVariants.{Linear}
@@ -7,12 +7,12 @@ use Rattle.cep_term.specs.Multiset.{Multiset}
 use Rattle.cep_rule.specs.declared.signature.Signature.{Signature}
 use Rattle.cep_rule.specs.declared.rule.Rule.{Rule}
 use Rattle.cep_rule.specs.declared.parts.Parts.{Parts}
-use Rattle.cep_weigh.specs.declared.limits.TheConstants.{MOST_FACTOR}
-use Rattle.cep_weigh.specs.declared.weight.Claim.{Claim}
-use Rattle.cep_weigh.specs.declared.weight.Claim.TheVariants.{Keep, Most, Fall}
-use Rattle.cep_weigh.specs.declared.weight.Part.{Part}
-use Rattle.cep_weigh.specs.declared.weight.Weight.{Weight}
-use Rattle.cep_weigh.specs.declared.weight.Against.{Against}
+use Rattle.cep_claim.specs.declared.weight.Claim.{Claim}
+use Rattle.cep_claim.specs.declared.weight.Claim.TheVariants.{Keep, Most, Fall}
+use Rattle.cep_claim.specs.declared.weight.Part.{Part}
+use Rattle.cep_claim.specs.declared.weight.Weight.{Weight}
+use Rattle.cep_weigh.specs.declared.against.Against.{Against}
+use Rattle.cep_claim.specs.Factors.{IsFactor, HaveOwnPredicates, AreNotNegative}
 
 -- the sum, over the parts, of the factor times the number that is counted of the part's predicate
 abbrev pub weighed : List Part → (ℕ → ℕ) → ℤ
@@ -66,24 +66,9 @@ pub record IsFirstAgainst (program : Parts) (claim : Claim) (parts : List Part) 
   pub breaks : ¬ KeepsTo claim parts rule
   pub first : (number : ℕ) (other : Rule) → number < against.rule → slice_get program.rules number ≡ Some other → KeepsTo claim parts other
 
--- A factor: not 0, and not too far from it.
-pub record IsFactor (factor : ℤ) : Type 0 where
-  pub some : ¬ (factor ≡ pos 0)
-  pub low : neg_ℤ MOST_FACTOR ≤ℤ factor
-  pub high : factor ≤ℤ MOST_FACTOR
-
 -- Each part is of a predicate that is declared and linear.
 abbrev pub AreOfLinear : Signature → List Part → Type 0
 AreOfLinear signature parts = AllByRecursion (λ part. IsSomeAnd (slice_get signature.preds part.pred) (λ pred. pred.kind ≡ Linear)) parts
-
--- No two parts are of one predicate.
-abbrev pub HaveOwnPredicates : List Part → Type 0
-HaveOwnPredicates [] = Unit {0}
-HaveOwnPredicates (part ∷ parts) = AllByRecursion (λ later. ¬ (later.pred ≡ part.pred)) parts × HaveOwnPredicates parts
-
--- No factor is negative.
-abbrev pub AreNotNegative : List Part → Type 0
-AreNotNegative parts = AllByRecursion (λ part. pos 0 ≤ℤ part.factor) parts
 
 -- Each factor is positive.
 abbrev pub ArePositive : List Part → Type 0

@@ -2,8 +2,8 @@
 ghost use Rattle.std.specs.Prelude.{◌≡◌, ◌↔◌, [], ◌∷◌, ◌++◌, IsTrue, IfOk};
 ghost use Rattle.cep_weigh.specs.Claims.{IsNamedBefore};
 
-use crate::weight::{Weight, Weights};
 use cep_base::FirstNames;
+use cep_claim::{Weight, Weights};
 use std::alloc::{AllocError, Global};
 use std::marker::Model;
 
@@ -16,7 +16,7 @@ pub(crate) struct Claims {
 
 impl Model for Claims {
     ghost use Rattle.std.specs.Prelude.{List};
-    ghost use Rattle.cep_weigh.specs.declared.weight.Weight.{Weight};
+    ghost use Rattle.cep_claim.specs.declared.weight.Weight.{Weight};
     ghost use Rattle.cep_weigh.specs.Tables.{NamesClaims};
 
     ghost Value = { List Weight };

@@ -5,8 +5,9 @@ ghost use Rattle.cep_weigh.specs.Weights.{weight_of, left_sum, right_sum, factor
 ghost use Rattle.cep_weigh.specs.WeightRuns.{HoldsOfRuns, BreaksSteps};
 ghost use Rattle.cep_weigh.specs.Tables.{AreFactors};
 
+use crate::against::Against;
 use crate::laws::{claims_hold_of_runs, sums_add_factors};
-use crate::weight::{Against, Claim, Part, Weight};
+use cep_claim::{Claim, Part, Weight};
 use cep_rule::{Premise, Program, Rule};
 
 /// The rule of least number that does not keep to the weight's claim, with both its sums, or none

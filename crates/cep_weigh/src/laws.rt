@@ -7,14 +7,15 @@ ghost use Rattle.cep_rule.specs.declared.rule.Rule.{Rule};
 ghost use Rattle.cep_rule.specs.declared.parts.Parts.{Parts};
 ghost use Rattle.cep_rule.specs.Step.{Step};
 ghost use Rattle.cep_rule.specs.Program.{IsProgram};
-ghost use Rattle.cep_weigh.specs.declared.weight.Claim.{Claim};
-ghost use Rattle.cep_weigh.specs.declared.weight.Claim.TheVariants.{Fall};
-ghost use Rattle.cep_weigh.specs.declared.weight.Part.{Part};
-ghost use Rattle.cep_weigh.specs.Weights.{weight_of, left_sum, right_sum, Wants, KeepsTo, AllKeepTo, AreOfLinear, AreNotNegative, factors_of};
+ghost use Rattle.cep_claim.specs.declared.weight.Claim.{Claim};
+ghost use Rattle.cep_claim.specs.declared.weight.Claim.TheVariants.{Fall};
+ghost use Rattle.cep_claim.specs.declared.weight.Part.{Part};
+ghost use Rattle.cep_claim.specs.Factors.{AreNotNegative};
+ghost use Rattle.cep_weigh.specs.Weights.{weight_of, left_sum, right_sum, Wants, KeepsTo, AllKeepTo, AreOfLinear, factors_of};
 ghost use Rattle.cep_weigh.specs.WeightRuns.{HoldsOfRuns};
 ghost use Rattle.cep_weigh.specs.Claims.{HasClaims, HasFault};
-ghost use Rattle.cep_weigh.specs.declared.weight.Weight.{Weight};
-ghost use Rattle.cep_weigh.specs.declared.fault.KeepFault.{KeepFault};
+ghost use Rattle.cep_claim.specs.declared.weight.Weight.{Weight};
+ghost use Rattle.cep_claim.specs.declared.fault.KeepFault.{KeepFault};
 
 use cep_term::laws::bags_are_lawful;
 

@@ -1,22 +1,21 @@
 // Reads a file of claims line by line.
 ghost use Rattle.std.specs.Prelude.{◌≡◌, ◌≤◌, ◌↔◌, length, IfOk, IfErr, IsTrue};
 ghost use Rattle.std.specs.List.{AllByRecursion};
-ghost use Rattle.cep_weigh.specs.declared.weight.Claim.TheVariants.{Fall};
+ghost use Rattle.cep_claim.specs.declared.weight.Claim.TheVariants.{Fall};
 ghost use Rattle.cep_weigh.specs.Weights.{IsWeightOf};
-ghost use Rattle.cep_weigh.specs.Claims.{SaysNothing, IsClaimOf, IsClaimFault, AddsLine, HasClaims, HasFault};
-ghost use Rattle.cep_weigh.specs.Tables.{NamesLinear};
+ghost use Rattle.cep_claim.specs.Written.{SaysNothing};
+ghost use Rattle.cep_weigh.specs.Claims.{IsClaimOf, IsClaimFault, AddsLine, HasClaims, HasFault};
+ghost use Rattle.cep_claim.specs.Tables.{NamesLinear};
 
 use crate::claims::Claims;
-use crate::fault::KeepFault;
 use crate::laws::one_reading;
-use crate::limits::MOST_CLAIMS;
-use crate::numbering::{are_apart, are_not_negative, linear_names, numbered};
-use crate::weight::{Claim, Weight, Weights};
-use crate::words::says_nothing;
-use crate::writing::written_as;
-use crate::written::Written;
 use bstr::ByteSlice;
 use cep_base::FirstNames;
+use cep_claim::limits::MOST_CLAIMS;
+use cep_claim::{
+    Claim, KeepFault, Weight, Weights, Written, are_apart, are_not_negative, linear_names,
+    numbered, says_nothing, written_as,
+};
 use cep_rule::{Program, Signature};
 use std::alloc::{AllocError, Global};
 

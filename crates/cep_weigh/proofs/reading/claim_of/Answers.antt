@@ -1,8 +1,9 @@
 use Rattle.std.proofs.Common.{◌≡◌, refl, inl, inr, true, sym, subst}
 use Rattle.cep_weigh.proofs.Lined.{not_twice}
-use Rattle.cep_weigh.specs.Weights.{HaveOwnPredicates, AreNotNegative}
-use Rattle.cep_weigh.specs.Claims.{IsNamedBefore, AreResolved}
-use Rattle.cep_weigh.proofs.Parted.{some_at}
+use Rattle.cep_claim.specs.Factors.{HaveOwnPredicates, AreNotNegative}
+use Rattle.cep_claim.specs.Written.{AreResolved}
+use Rattle.cep_weigh.specs.Claims.{IsNamedBefore}
+use Rattle.cep_claim.proofs.Parted.{some_at}
 use Rattle.cep_weigh.proofs.reading.claim_of.Goals as goal
 
 pub returns-then-has_name-clause-fault : goal.returns-then-has_name-clause-fault

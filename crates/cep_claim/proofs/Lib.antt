@@ -1,0 +1,4 @@
+pub mod Parted
+pub mod Tabled
+pub mod Resolved
+pub mod Spelled

@@ -1,5 +1,0 @@
-use Rattle.cep_weigh.specs.Tables.{NamesLinearBelow}
-use Rattle.cep_weigh.proofs.numbering.linear_names.Given as goal
-
-abbrev pub invariant-loop-i : goal.invariant-loop-i
-invariant-loop-i l = NamesLinearBelow l.signature l.i l.table
