@@ -1,14 +1,42 @@
 -- Bytes have one log at most, or else one first misfit.
-use Rattle.std.proofs.Common.{◌≡◌, ◌⊎◌, inl, inr, ℕ, ◌+◌, List, [], ◌∷◌, ◌++◌, length, sym, ◌∙◌, subst, arith}
+use Rattle.std.proofs.Common.{◌≡◌, ◌≢◌, ◌⊎◌, inl, inr, ℕ, ◌+◌, List, [], ◌∷◌, ◌++◌, length, refl, sym, ◌∙◌, subst, arith}
 use Rattle.cep_base.proofs.Lists.{none_some, some_same}
 use Rattle.cep_rule.specs.declared.parts.Parts.{Parts}
-use Rattle.cep_log.proofs.Cuts.{one_cut}
-use Rattle.cep_log.proofs.LineKindLemmas.{OneValue, one_way, one_passed}
+use Rattle.std.proofs.lemmas.List.{same_from_push}
+use Rattle.cep_log.proofs.Parted.{HasNone, one_parting}
+use Rattle.cep_log.proofs.OneWay.{OneValue, one_way, one_passed}
 use Rattle.cep_log.specs.declared.so_far.SoFar.TheVariants.{Nothing}
-use Rattle.cep_log.specs.Transcript.{MovesOn, Leads, HasLog, HasMisfit, IsFirstMisfit, StopsEarly, IsFaultOf}
+use Rattle.cep_log.specs.Transcript.{AreLines, MovesOn, Leads, HasLog, HasMisfit, IsFirstMisfit, StopsEarly, IsFaultOf}
 use Rattle.cep_log.specs.declared.so_far.SoFar.{SoFar}
 use Rattle.cep_log.specs.declared.fault.LogFault.{LogFault}
 use Rattle.cep_log.specs.declared.log.Log.{Log}
+
+-- The lines of bytes are one list.
+
+none_within : (text rest : List ℕ) → HasNone 10 (text ++ 10 ∷ rest) → ⊥
+none_within [] rest none = none.0 refl
+none_within (byte ∷ text) rest none = none_within text rest none.1
+
+no_nil : (text rest : List ℕ) → ◌≢◌ {A = List ℕ} [] (text ++ 10 ∷ rest)
+no_nil [] rest e = absurd cc
+no_nil (byte ∷ text) rest e = absurd cc
+
+pub one_cut : (bytes : List ℕ) (lines lines' : List (List ℕ)) → AreLines bytes lines → AreLines bytes lines' → lines ≡ lines'
+one_cut bytes [] [] a b = refl
+one_cut bytes [] (line' ∷ lines') a (inl b) = absurd (no_nil b.0 b.1 (sym a ∙ b.2))
+one_cut bytes [] (line' ∷ lines') a (inr b) = absurd (b.1 (sym b.0 ∙ a))
+one_cut bytes (line ∷ lines) [] (inl a) b = absurd (no_nil a.0 a.1 (sym b ∙ a.2))
+one_cut bytes (line ∷ lines) [] (inr a) b = absurd (a.1 (sym a.0 ∙ b))
+one_cut bytes (line ∷ lines) (line' ∷ lines') (inl a) (inl b) =
+    let parted = one_parting 10 a.0 b.0 (10 ∷ a.1) (10 ∷ b.1) a.3 b.3 (inr (a.1, refl)) (inr (b.1, refl)) (sym a.2 ∙ b.2) in
+    let first : line ≡ line' = grind (arith, same_from_push) in
+    let rest : lines ≡ lines' = one_cut b.1 lines lines' (subst (λ bytes'. AreLines bytes' lines) (let h : 10 ∷ a.1 ≡ 10 ∷ b.1 = parted.1 in cc) a.5) b.5 in
+    cc
+one_cut bytes (line ∷ lines) (line' ∷ lines') (inl a) (inr b) = absurd (none_within a.0 a.1 (subst (HasNone 10) (sym b.0 ∙ a.2) b.2))
+one_cut bytes (line ∷ lines) (line' ∷ lines') (inr a) (inl b) = absurd (none_within b.0 b.1 (subst (HasNone 10) (sym a.0 ∙ b.2) a.2))
+one_cut bytes (line ∷ lines) (line' ∷ lines') (inr a) (inr b) = grind (arith, a.0, b.0, a.3, b.3)
+
+-- Bytes have one log.
 
 -- a way through all lines goes through each of them
 leads_through : (program : Parts) (n : ℕ) (before : List (List ℕ)) (line : List ℕ) (behind : List (List ℕ)) (old new : SoFar) → Leads program n (before ++ line ∷ behind) old new

@@ -1,10 +1,8 @@
 pub mod Parted
-pub mod Cuts
-pub mod Passing
 pub mod Apart
 pub mod LineTexts
 pub mod WrittenLogs
-pub mod LineKindLemmas
+pub mod OneWay
 pub mod SameLogs
 pub mod LegalLogs
 pub mod DeedLogs

@@ -4,4 +4,3 @@ pub mod Legal
 pub mod Transcript
 pub mod Written
 pub mod Holding
-pub mod Growing

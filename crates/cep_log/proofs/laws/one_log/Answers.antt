@@ -1,6 +1,6 @@
 use Rattle.cep_rule.specs.declared.parts.Parts.{Parts}
 use Rattle.cep_rule.specs.Program.{IsProgram}
-use Rattle.cep_log.proofs.LineKindLemmas.{OneValue}
+use Rattle.cep_log.proofs.OneWay.{OneValue}
 use Rattle.cep_log.proofs.Apart.{one_log, log_or_misfit, one_misfit}
 use Rattle.cep_log.proofs.laws.one_log.Goals as goal
 

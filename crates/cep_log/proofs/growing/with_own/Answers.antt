@@ -1,5 +1,0 @@
-use Rattle.std.proofs.Common.{rules}
-use Rattle.cep_log.proofs.growing.with_own.Goals as goal
-
-pub returns : goal.returns
-returns c = search rules

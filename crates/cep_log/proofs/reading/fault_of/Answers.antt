@@ -1,5 +1,0 @@
-use Rattle.std.proofs.Common.{rules}
-use Rattle.cep_log.proofs.reading.fault_of.Goals as goal
-
-pub returns-then-names_no_rule : goal.returns-then-names_no_rule
-returns-then-names_no_rule c = search rules

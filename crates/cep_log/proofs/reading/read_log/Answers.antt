@@ -1,4 +1,0 @@
-use Rattle.cep_log.proofs.reading.read_log.Goals as goal
-
-pub returns : goal.returns
-returns c = rw (← c.in_ok-vocabulary.ensures) (record { log = c.read_by.ensures.log; of_program = c.read_by.ensures.of_program; fault = c.read_by.ensures.fault })
