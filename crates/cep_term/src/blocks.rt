@@ -203,7 +203,8 @@ impl Blocks {
     #[tactic(auto, using(crate::proofs::BlockEdits::in_block))]
     fn divide(&mut self, at: usize) -> Result<(), AllocError>
         requires there { at < length self.old.later.items }
-        requires long { IfSome (slice_get self.old.later.items at) (λ block. 1 < length block.items) }
+        requires long { IfSome (slice_get self.old.later.items at)
+            (λ block. 1 < length block.items) }
         requires filled { HaveEntries self.old.later.items }
         ensures same { entries_in self.new ≡ entries_in self.old }
         ensures filled { HaveEntries self.new.later.items }

@@ -98,7 +98,7 @@ fn a_mask_has_a_bit_for_each_place_of_the_key(rt: HostRuntime) -> Result<(), Fai
 fn three_of_four_places_hold_the_key(rt: HostRuntime) {
     let mut mask = [0];
     equal_mask(&[7, 3, 7, 7], 7, &mut mask);
-    assert_eq!(rt; mask, [13]);
+    assert!(rt; mask == [13]);
 }
 
 #[test]
@@ -133,7 +133,7 @@ fn the_next_place_may_be_in_a_later_word(rt: HostRuntime) {
 fn places_of_both_masks_are_left(rt: HostRuntime) {
     let mut mask = [13, 1 << 63];
     and_mask(&mut mask, &[6, u64::MAX]);
-    assert_eq!(rt; mask, [4, 1 << 63]);
+    assert!(rt; mask == [4, 1 << 63]);
 }
 
 #[test]
@@ -141,5 +141,5 @@ fn a_place_is_put_into_a_mask_and_taken_out(rt: HostRuntime) {
     let mut mask = [13, 0];
     include(&mut mask, 65);
     exclude(&mut mask, 2);
-    assert_eq!(rt; mask, [9, 2]);
+    assert!(rt; mask == [9, 2]);
 }

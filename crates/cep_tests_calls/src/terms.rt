@@ -124,7 +124,7 @@ fn a_pattern_meets_a_number(rt: HostRuntime) -> Result<(), Fail> {
         ("num (s (s z))", false),
         ("num (s z)", true),
     ] {
-        assert_eq!(rt; meets_text(rt.alloc(), text, &mut values)?, is_met);
+        assert!(rt; meets_text(rt.alloc(), text, &mut values)? == is_met);
     }
     Ok(())
 }

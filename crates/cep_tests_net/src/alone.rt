@@ -68,6 +68,6 @@ fn turns_of_switch(alloc: Global, many: u32, turns: u32) -> Result<u32, Fail> {
 
 #[test]
 fn a_switch_is_turned_500000_times_beside_10000_things(rt: HostRuntime) -> Result<(), Fail> {
-    assert_eq!(rt; turns_of_switch(rt.alloc(), 10_000, 500_000)?, 500_000);
+    assert!(rt; turns_of_switch(rt.alloc(), 10_000, 500_000)? == 500_000);
     Ok(())
 }
