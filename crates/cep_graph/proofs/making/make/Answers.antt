@@ -1,7 +1,9 @@
 use Rattle.std.proofs.Common.{◌≡◌, ◌⊎◌, inl, inr, ◌+◌, Bool, true, false, ◌&&◌, List, length, drop, refl, sym, ◌∙◌, subst, arith}
 use Rattle.std.proofs.lemmas.Grind.{common_steps}
+use Rattle.std.proofs.lemmas.Option.{slice_get_within}
 use Rattle.std.specs.Prelude.{nat_lt}
-use Rattle.cep_term.specs.Tree.{AtomTree, atom_of}
+use Rattle.cep_base.proofs.Lists.{holds_at}
+use Rattle.cep_term.specs.Tree.{AtomTree, atom_of, IsGroundAtom, IsAtomInRange}
 use Rattle.cep_rule.specs.Typing.{is_fact}
 use Rattle.cep_rule.specs.Instances.{full_instance}
 use Rattle.cep_graph.specs.Queues.{Queues, queue_of}
@@ -47,3 +49,15 @@ loop-i-preserved c =
 
 pub returns : goal.returns
 returns c = grind (arith, common_steps)
+
+pub id_of_instance-requires-clause-range : goal.id_of_instance-requires-clause-range
+id_of_instance-requires-clause-range c = holds_at (λ (a : AtomTree). IsAtomInRange (length c.args.values.now) a) c.args.right.now c.loop-i.i (atom_of c.get-atom.result.now) c.requires.range c.get-atom.ensures
+
+pub id_of_instance-requires-clause-ground : goal.id_of_instance-requires-clause-ground
+id_of_instance-requires-clause-ground c = holds_at (λ (a : AtomTree). IsGroundAtom (full_instance c.args.values.now a)) c.args.right.now c.loop-i.i (atom_of c.get-atom.result.now) c.requires.ground c.get-atom.ensures
+
+pub has-requires : goal.has-requires
+has-requires c = slice_get_within c.id_of_instance.new.tokens.atoms c.in_ok-id.id (full_instance c.args.values.now (atom_of c.get-atom.result.now)) c.in_ok-id.ensures.met
+
+pub add-requires : goal.add-requires
+add-requires c = slice_get_within c.id_of_instance.new.tokens.atoms c.in_ok-id.id (full_instance c.args.values.now (atom_of c.get-atom.result.now)) c.in_ok-id.ensures.met

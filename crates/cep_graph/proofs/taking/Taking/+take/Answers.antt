@@ -66,3 +66,12 @@ returns-clause-takes t c =
     (c.in-Some.ensures.taken (full_instance c.args.self.now.values.now (premise_of c.get-premise.result.now).atom) met) refl c.in_ok-push-3.ensures.ok
     (subst (λ (ns : List ℕ). TakesFor c.args.self.now.signature.now c.args.self.now.values.now (drop (c.args.i + 1) c.args.premises.now) c.args.self.now.number c.take_oldest.new.self c.take-2.new.tokens ns c.take-2.new.numbers.items) c.in_ok-push-2.ensures.items c.in_ok-take.ensures.takes)
     (c.in_ok-put_back.ensures (full_instance c.args.self.now.values.now (premise_of c.get-premise.result.now).atom) later))
+
+pub returns-then-is_fact-clause-ids : goal.returns-then-is_fact-clause-ids
+returns-then-is_fact-clause-ids t c =
+    on_ok_weaker c.take.result (λ keeps id a is. keeps id a (c.in_ok-id.ensures.ids id a is)) c.take.ensures.ids
+
+pub returns-then-not-premise-clause-ids : goal.returns-then-not-premise-clause-ids
+returns-then-not-premise-clause-ids t c =
+    let taken = c.in-Some.ensures.taken (full_instance c.args.self.now.values.now (premise_of c.get-premise.result.now).atom) c.in_ok-id.ensures.met in
+    on_ok_weaker c.take-then-not-premise.result (λ keeps id a is. keeps id a (ap (λ (atoms : List AtomTree). slice_get atoms id) (sym taken.atoms) ∙ c.in_ok-id.ensures.ids id a is)) c.take-then-not-premise.ensures.ids
