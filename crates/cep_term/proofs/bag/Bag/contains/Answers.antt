@@ -1,5 +1,4 @@
 use Rattle.std.proofs.Common.{refl, arith}
-use Rattle.std.proofs.lemmas.Grind.{common_steps}
 use Rattle.cep_term.specs.Tree.{atom_of}
 use Rattle.cep_term.proofs.BlockEdits.{contained_all}
 use Rattle.cep_term.proofs.Multisets.{entry_counted}
@@ -13,6 +12,3 @@ returns-then-count-copies c = (
 
 pub returns : goal.returns
 returns c = (λ _. contained_all c.args.self.now c.args.other.now c.loop-i.i (omega (arith, c.loop-i-test.false, c.len-i-end.ensures.value)) c.loop-i.invariant, λ _. refl)
-
-pub loop-i-preserved : goal.loop-i-preserved
-loop-i-preserved c = grind (arith, common_steps)
