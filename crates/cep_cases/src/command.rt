@@ -1,7 +1,8 @@
 // The command over fakes of the outside.
 ghost use Rattle.std.specs.Prelude.{◌≡◌, ◌<◌};
 
-use cep_base::Steps;
+use cep_base::{Event, Steps};
+use cep_case_texts::Draft;
 use cep_fakes::{MemConsole, MemShelf};
 use cep_play::ceptre;
 use std::alloc::{AllocError, Global};
@@ -15,6 +16,15 @@ pub fn words_of(alloc: Global, line: &str) -> Result<Vec<String>, AllocError> {
         all.push(String::from_str(alloc, word)?)?;
     }
     Ok(all)
+}
+
+/// Adds what was written in a talk.
+pub fn put_written(talk: &[Event], out: &mut Draft) {
+    for event in talk {
+        if let Event::Out(byte) = event {
+            out.put(&[*byte]);
+        }
+    }
 }
 
 // The status of the command, with a counter over a new ledger.

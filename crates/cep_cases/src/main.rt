@@ -3,8 +3,6 @@
 
 mod command;
 mod player;
-mod series;
-mod telling;
 
 use player::Player;
 use std::fs;

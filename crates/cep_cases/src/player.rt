@@ -1,8 +1,6 @@
 // Runs cases.
-use crate::command::{status, words_of};
-use crate::series::Series;
-use crate::telling::{Name, Outcome, put_written, tell};
-use cep_case_texts::{Draft, NO_MEMORY, Section, Texts, number_of};
+use crate::command::{put_written, status, words_of};
+use cep_case_texts::{Draft, NO_MEMORY, Name, Outcome, Section, Series, Texts, number_of, tell};
 use cep_fakes::{MemConsole, MemShelf};
 use std::alloc::Global;
 

@@ -1,6 +1,6 @@
 use Rattle.std.proofs.Common.{◌≡◌, ◌+◌, ◌≤◌, ℕ}
 use Rattle.cep_column.specs.Rows.{live_count, IsLive, IsInNoRow}
-use Rattle.cep_tests_calls.proofs.rows.add_all.Given as goal
+use Rattle.cep_tests_columns.proofs.rows.add_all.Given as goal
 
 abbrev pub invariant-loop-i : goal.invariant-loop-i
 invariant-loop-i l = record {

@@ -1,6 +1,5 @@
 // What is written of a case.
-use cep_base::Event;
-use cep_case_texts::{Draft, NO_MEMORY};
+use crate::draft::{Draft, NO_MEMORY};
 use std::alloc::Global;
 
 /// How a call of the command ended, and what it said.
@@ -29,15 +28,6 @@ impl Name<'_> {
         if self.number > 0 {
             out.put(b"/");
             out.put_number(self.number);
-        }
-    }
-}
-
-/// Adds what was written in a talk.
-pub fn put_written(talk: &[Event], out: &mut Draft) {
-    for event in talk {
-        if let Event::Out(byte) = event {
-            out.put(&[*byte]);
         }
     }
 }

@@ -1,6 +1,6 @@
 // Runs of one case, in which one number grows.
+use crate::draft::Draft;
 use crate::telling::Outcome;
-use cep_case_texts::Draft;
 
 /// Runs of one case: what the whole run comes to, and what the last one came to, and how much of what the whole run says was said.
 #[derive(Drop)]

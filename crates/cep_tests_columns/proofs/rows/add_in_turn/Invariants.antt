@@ -1,6 +1,6 @@
 use Rattle.std.proofs.Common.{◌≡◌}
 use Rattle.cep_column.specs.Rows.{live_count, IsInNoRow}
-use Rattle.cep_tests_calls.proofs.rows.add_in_turn.Given as goal
+use Rattle.cep_tests_columns.proofs.rows.add_in_turn.Given as goal
 
 abbrev pub invariant-loop-key : goal.invariant-loop-key
 invariant-loop-key l = record {
