@@ -1,4 +1,4 @@
-use Rattle.std.proofs.Common.{arith}
+use Rattle.std.proofs.Common.{arith, rules}
 use Rattle.cep_parse.specs.Symbols.{symbols_of}
 use Rattle.cep_source.specs.Items.{Source}
 use Rattle.cep_infer.specs.Shapes.{IsSource}
@@ -14,3 +14,6 @@ returns c =
     let is_source : IsSource source = record { tokens = c.in-Ok.tokens; lexed = lexed; parsed = parsed.0; shallow = parsed.1 } in
     refused_draft c.lexed_once.ensures c.parsed_once.ensures (λ text tokens one other. c.one_raw_file.ensures (symbols_of text tokens) one other)
     source (omega arith) is_source c.in-Err-3.refusal (rw c.in-Err-3.is at c.in_ok-draft.ensures)
+
+pub returns-then-text-gt-MOST_TEXT : goal.returns-then-text-gt-MOST_TEXT
+returns-then-text-gt-MOST_TEXT c = search rules

@@ -1,4 +1,4 @@
-use Rattle.std.proofs.Common.{◌≡◌, arith}
+use Rattle.std.proofs.Common.{◌≡◌, arith, rules}
 use Rattle.cep_reader.proofs.LineKindLemmas.{counted_as, same_decimal}
 use Rattle.cep_reader.proofs.line_kinds.counted.Goals as goal
 use Rattle.cep_reader.proofs.line_kinds.counted.Goals.{else-count-ge1-via-then-count-ge1+else-from-le-MOST_COPIES, else-count-ge1-via-else-count-ge1}
@@ -19,3 +19,6 @@ returns-else-count-ge1 c = λ count text some few said.
       | else-count-ge1-via-then-count-ge1+else-from-le-MOST_COPIES w ↦ omega arith
       | else-count-ge1-via-else-count-ge1 w ↦ omega arith
     ]
+
+pub returns-then-from-le-MOST_COPIES : goal.returns-then-from-le-MOST_COPIES
+returns-then-from-le-MOST_COPIES c = (omega arith, omega arith, search rules)
