@@ -1,96 +1,150 @@
 # Completion of the command ceptre and of the scripts beside it for bash: source this file.
 
 _ceptre() {
-    local word=${COMP_WORDS[COMP_CWORD]} command=${COMP_WORDS[1]-}
+    local word=${COMP_WORDS[COMP_CWORD]} words options
     COMPREPLY=()
     # What stands after the = of an option is a number, which nobody completes.
     if [[ $word == *=* || ${COMP_WORDS[COMP_CWORD - 1]} == = ]]; then
         return
     fi
-    case $COMP_CWORD:$command in
-    1:*) mapfile -t COMPREPLY < <(compgen -W 'play check renew world cause again rounds weigh dead' -- "$word") ;;
-    2:play | 2:check | 2:renew | 2:cause | 2:again | 2:rounds | 2:weigh | 2:dead) _ceptre_files cep "$word" ;;
-    3:check | 3:renew | 3:cause | 3:again) _ceptre_files log "$word" ;;
-    3:weigh) _ceptre_files keeps "$word" ;;
-    4:again) _ceptre_seed "$word" ;;
-    2:world | *:check | *:renew | *:cause | *:again | *:weigh | *:dead) ;;
-    *:play | *:world) _ceptre_options "$word" ;;
-    *:rounds) _ceptre_options "$word" players= ;;
+    if [ "$COMP_CWORD" = 1 ]; then
+        mapfile -t COMPREPLY < <(compgen -W "$_ceptre_commands" -- "$word")
+        return
+    fi
+    _ceptre_form "${COMP_WORDS[1]}"
+    read -ra words <<<"${words-}"
+    if [ "$COMP_CWORD" -lt $((${#words[@]} + 2)) ]; then
+        _ceptre_offer "${words[COMP_CWORD - 2]}"
+    else
+        _ceptre_options ${options-}
+    fi
+}
+
+# Completes with files of an ending and folders, with any file, with names in the world, with options, or with words.
+_ceptre_offer() {
+    case $1 in
+    - | '') ;;
+    .*) _ceptre_files "${1#.}" ;;
+    FILE)
+        mapfile -t COMPREPLY < <(compgen -f -- "$word")
+        compopt -o filenames 2>/dev/null
+        ;;
+    rules | atoms)
+        local IFS=$'\n'
+        mapfile -t COMPREPLY < <(compgen -W "$("${COMP_WORDS[0]}" --names "$1" "${world-}" 2>/dev/null)" -- "$word")
+        compopt -o filenames 2>/dev/null
+        ;;
+    *=*) _ceptre_options $1 ;;
+    *) mapfile -t COMPREPLY < <(compgen -W "$1" -- "$word") ;;
     esac
 }
 
 # Completes with the files of an ending, and with folders. Readline quotes their names, and puts a slash after a folder.
 _ceptre_files() {
     mapfile -t COMPREPLY < <(
-        compgen -f -X "!*.$1" -- "$2"
-        compgen -d -- "$2"
+        compgen -f -X "!*.$1" -- "$word"
+        compgen -d -- "$word"
     )
     # Outside of a completion there is nothing to set.
     compopt -o filenames 2>/dev/null
 }
 
-# Completes with the one option of `again`.
-_ceptre_seed() {
-    mapfile -t COMPREPLY < <(compgen -W 'seed=' -- "$1")
-    compopt -o nospace 2>/dev/null
-}
-
-# Completes with the options that are not given yet: those of a run, and further ones that are named.
+# Completes with those of the options that are not given yet.
 _ceptre_options() {
     local given=" ${COMP_WORDS[*]} " option
     given=${given// = /=}
-    for option in "${@:2}" seed= height= turns=; do
-        if [[ $option == "$1"* && $given != *" $option"* ]]; then
+    for option; do
+        if [[ $option == "$word"* && $given != *" $option"* ]]; then
             COMPREPLY+=("$option")
         fi
     done
     compopt -o nospace 2>/dev/null
 }
 
-# The options of each script, and whether a transcript follows its world.
 _ceptre_script() {
-    local word=${COMP_WORDS[COMP_CWORD]} options place=0 at
-    case ${COMP_WORDS[0]##*/} in
-    explain) options='--help --all --hints --format' ;;
-    follow) options='--help --at --causes --dot' ;;
-    grade) options='--help --goal --height --end --typed --seed --turns --json' ;;
-    player) options='--help --log --load --from --rows --plain' ;;
-    replay) options='--help --seed --turns --typed --words' ;;
-    why) options='--help' ;;
-    sample) options='--help --runs --seed --players-by-seed --height --turns --goal --csv' ;;
-    esac
+    local word=${COMP_WORDS[COMP_CWORD]} name=${COMP_WORDS[0]##*/} options words again value place=0 at world=
+    name=${name#ceptre-}
     COMPREPLY=()
+    _ceptre_script_form "$name"
     if [[ $word == -* ]]; then
         mapfile -t COMPREPLY < <(compgen -W "$options" -- "$word")
         return
     fi
-    case ${COMP_WORDS[COMP_CWORD - 1]} in
-    --format) mapfile -t COMPREPLY < <(compgen -W 'text gcc' -- "$word") && return ;;
-    --end) mapfile -t COMPREPLY < <(compgen -W 'quiet turns offers input typed atom state' -- "$word") && return ;;
-    --typed | --load | --log)
-        mapfile -t COMPREPLY < <(compgen -f -- "$word")
-        compopt -o filenames 2>/dev/null
-        return
-        ;;
-    --from)
-        _ceptre_files log "$word"
-        return
-        ;;
-    --at | --causes | --goal | --height | --seed | --turns | --rows | --runs) return ;;
-    esac
-    # The first word that is no option is the world.
+    # The words before the cursor that are neither options nor their values.
     for ((at = 1; at < COMP_CWORD; at++)); do
-        [[ ${COMP_WORDS[at]} == -* || ${COMP_WORDS[at - 1]} == --[a-z]* ]] || place=1
+        _ceptre_value "$name" "${COMP_WORDS[at - 1]}"
+        [[ ${COMP_WORDS[at]} == -* || -n $value ]] && continue
+        [ -n "$world" ] || world=${COMP_WORDS[at]}
+        place=$((place + 1))
     done
-    if [[ $place == 0 ]]; then
-        _ceptre_files cep "$word"
-    else
-        case ${COMP_WORDS[0]##*/} in
-        follow | grade | explain | replay | why) _ceptre_files log "$word" ;;
-        player) _ceptre_options "$word" ;;
-        esac
-    fi
+    [ -z "$again" ] || [ $place -lt ${#words[@]} ] || place=$((${#words[@]} - 1))
+    _ceptre_value "$name" "${COMP_WORDS[COMP_CWORD - 1]}"
+    _ceptre_offer "${value:-${words[place]-}}"
 }
 
 complete -F _ceptre ceptre ./ceptre
-complete -F _ceptre_script {,./}tools/{explain,follow,grade,player,replay,sample,why}
+
+# made by .ci/commands
+_ceptre_commands='play check world renew cause again rounds weigh dead'
+
+# What completes the words of a command, and its options.
+_ceptre_form() {
+    case $1 in
+    play) words='.cep' options='seed= height= turns=' ;;
+    check) words='.cep .log' options='' ;;
+    world) words='-' options='seed= height= turns=' ;;
+    renew) words='.cep .log' options='' ;;
+    cause) words='.cep .log' options='' ;;
+    again) words='.cep .log' options='seed=' ;;
+    rounds) words='.cep' options='players= seed= height= turns=' ;;
+    weigh) words='.cep .keeps' options='' ;;
+    dead) words='.cep' options='' ;;
+    esac
+}
+
+# The options of a script, and what completes its words.
+_ceptre_script_form() {
+    case $1 in
+    explain) options='--help --version --all --hints --format' words=('.cep' '.log') again= ;;
+    follow) options='--help --version --at --causes --dot' words=('.cep' '.log') again= ;;
+    format) options='--help --version --check' words=('.cep') again=1 ;;
+    grade) options='--help --version --goal --height --end --typed --seed --turns --json --jobs' words=('.cep' '.log') again=1 ;;
+    player) options='--help --version --log --load --from --rows --plain' words=('.cep' 'seed= height= turns=') again=1 ;;
+    replay) options='--help --version --seed --turns --typed --words' words=('.cep' '.log') again= ;;
+    sample) options='--help --version --runs --seed --players-by-seed --height --turns --goal --csv --jobs' words=('.cep') again= ;;
+    server) options='--help --version' words=() again= ;;
+    why) options='--help --version' words=('.cep' '.log' '-' 'rules' '-') again=1 ;;
+    esac
+}
+
+# What completes the value of an option of a script.
+_ceptre_value() {
+    case $1:$2 in
+    explain:--format) value='text gcc' ;;
+    follow:--at) value='-' ;;
+    follow:--causes) value='-' ;;
+    grade:--goal) value='atoms' ;;
+    grade:--height) value='-' ;;
+    grade:--end) value='quiet turns offers input typed atom state' ;;
+    grade:--typed) value='FILE' ;;
+    grade:--seed) value='-' ;;
+    grade:--turns) value='-' ;;
+    grade:--jobs) value='-' ;;
+    player:--log) value='FILE' ;;
+    player:--load) value='FILE' ;;
+    player:--from) value='.log' ;;
+    player:--rows) value='-' ;;
+    replay:--seed) value='-' ;;
+    replay:--turns) value='-' ;;
+    sample:--runs) value='-' ;;
+    sample:--seed) value='-' ;;
+    sample:--height) value='-' ;;
+    sample:--turns) value='-' ;;
+    sample:--goal) value='atoms' ;;
+    sample:--jobs) value='-' ;;
+    *) value= ;;
+    esac
+}
+
+complete -F _ceptre_script {,./}tools/{explain,follow,format,grade,player,replay,sample,server,why} ceptre-{explain,follow,format,grade,player,replay,sample,server,why}
+# end of what is made

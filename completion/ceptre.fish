@@ -1,69 +1,177 @@
 # Completion of the command ceptre and of the scripts beside it for fish: source this file.
 
-# Whether so many words stand before the cursor, the command's name among them, the second one of these.
-function __ceptre_at
-    set -l words (commandline -opc)
-    test (count $words) -eq $argv[1]; and contains -- "$words[2]" $argv[2..-1]
+# Whether so many words stand before the cursor, the command's name among them.
+function __ceptre_words
+    test (count (commandline -opc)) -eq $argv[1]
 end
 
-# Whether an option of one of these commands may stand here, and was not given yet.
+# Whether that is so, and the second one is this command.
+function __ceptre_at
+    set -l words (commandline -opc)
+    test (count $words) -eq $argv[1]; and test "$words[2]" = $argv[2]
+end
+
+# Whether an option of this command may stand here, and was not given yet.
 function __ceptre_may
     set -l words (commandline -opc)
-    test (count $words) -ge 3; and contains -- "$words[2]" $argv[2..-1]; and not string match -q -- "$argv[1]*" $words
+    test (count $words) -ge 3; and test "$words[2]" = $argv[2]; and not string match -q -- "$argv[1]*" $words
+end
+
+# Compares how many words without a dash stand before the cursor, the script's name among them.
+function __ceptre_arguments
+    test (count (string match -v -- '-*' (commandline -opc))) $argv
+end
+
+# The rules or the atoms of the world, which is the first word that ends so.
+function __ceptre_names
+    set -l words (commandline -opc)
+    $words[1] --names $argv[1] (string match -- '*.cep' $words)[1] 2>/dev/null
 end
 
 complete -c ceptre -f
-complete -c ceptre -n 'test (count (commandline -opc)) -eq 1' -a play -d 'play a world'
-complete -c ceptre -n 'test (count (commandline -opc)) -eq 1' -a check -d 'check a transcript against a world'
-complete -c ceptre -n 'test (count (commandline -opc)) -eq 1' -a renew -d 'write a legal transcript again in the newest version'
-complete -c ceptre -n 'test (count (commandline -opc)) -eq 1' -a world -d 'run a generated world'
-complete -c ceptre -n 'test (count (commandline -opc)) -eq 1' -a cause -d 'list what each step of a transcript rests on'
-complete -c ceptre -n 'test (count (commandline -opc)) -eq 1' -a again -d 'do the steps of a transcript again in another order'
-complete -c ceptre -n 'test (count (commandline -opc)) -eq 1' -a rounds -d 'play a world with several players at once'
-complete -c ceptre -n 'test (count (commandline -opc)) -eq 1' -a weigh -d 'judge claims about weights'
-complete -c ceptre -n 'test (count (commandline -opc)) -eq 1' -a dead -d 'list rules that can never apply'
-complete -c ceptre -n '__ceptre_at 2 play check renew cause again rounds weigh dead' -k -a '(__fish_complete_suffix .cep)'
-complete -c ceptre -n '__ceptre_at 3 check renew cause again' -k -a '(__fish_complete_suffix .log)'
-complete -c ceptre -n '__ceptre_at 4 again' -a seed=
-complete -c ceptre -n '__ceptre_at 3 weigh' -k -a '(__fish_complete_suffix .keeps)'
-for option in seed height turns
-    complete -c ceptre -n "__ceptre_may $option= play world rounds" -a "$option="
-end
-complete -c ceptre -n '__ceptre_may players= rounds' -a players=
 
-for script in explain follow grade player replay sample why
-    complete -p "*/tools/$script" -f
-    complete -p "*/tools/$script" -l help
-    complete -p "*/tools/$script" -n 'test (count (commandline -opc)) -eq 1' -k -a '(__fish_complete_suffix .cep)'
+# made by .ci/commands
+complete -c ceptre -n '__ceptre_words 1' -a play -d 'play a world'
+complete -c ceptre -n '__ceptre_at 2 play' -k -a '(__fish_complete_suffix .cep)'
+complete -c ceptre -n '__ceptre_may seed= play' -a seed=
+complete -c ceptre -n '__ceptre_may height= play' -a height=
+complete -c ceptre -n '__ceptre_may turns= play' -a turns=
+complete -c ceptre -n '__ceptre_words 1' -a check -d 'check a transcript against a world'
+complete -c ceptre -n '__ceptre_at 2 check' -k -a '(__fish_complete_suffix .cep)'
+complete -c ceptre -n '__ceptre_at 3 check' -k -a '(__fish_complete_suffix .log)'
+complete -c ceptre -n '__ceptre_words 1' -a world -d 'run a generated world of so many rooms'
+complete -c ceptre -n '__ceptre_may seed= world' -a seed=
+complete -c ceptre -n '__ceptre_may height= world' -a height=
+complete -c ceptre -n '__ceptre_may turns= world' -a turns=
+complete -c ceptre -n '__ceptre_words 1' -a renew -d 'write a legal transcript again in the newest version'
+complete -c ceptre -n '__ceptre_at 2 renew' -k -a '(__fish_complete_suffix .cep)'
+complete -c ceptre -n '__ceptre_at 3 renew' -k -a '(__fish_complete_suffix .log)'
+complete -c ceptre -n '__ceptre_words 1' -a cause -d 'list on which earlier steps of a transcript each step rests'
+complete -c ceptre -n '__ceptre_at 2 cause' -k -a '(__fish_complete_suffix .cep)'
+complete -c ceptre -n '__ceptre_at 3 cause' -k -a '(__fish_complete_suffix .log)'
+complete -c ceptre -n '__ceptre_words 1' -a again -d 'do the steps of a transcript again in another order'
+complete -c ceptre -n '__ceptre_at 2 again' -k -a '(__fish_complete_suffix .cep)'
+complete -c ceptre -n '__ceptre_at 3 again' -k -a '(__fish_complete_suffix .log)'
+complete -c ceptre -n '__ceptre_may seed= again' -a seed=
+complete -c ceptre -n '__ceptre_words 1' -a rounds -d 'play a world with several players at once'
+complete -c ceptre -n '__ceptre_at 2 rounds' -k -a '(__fish_complete_suffix .cep)'
+complete -c ceptre -n '__ceptre_may players= rounds' -a players=
+complete -c ceptre -n '__ceptre_may seed= rounds' -a seed=
+complete -c ceptre -n '__ceptre_may height= rounds' -a height=
+complete -c ceptre -n '__ceptre_may turns= rounds' -a turns=
+complete -c ceptre -n '__ceptre_words 1' -a weigh -d 'judge claims about weights by the rules of a world'
+complete -c ceptre -n '__ceptre_at 2 weigh' -k -a '(__fish_complete_suffix .cep)'
+complete -c ceptre -n '__ceptre_at 3 weigh' -k -a '(__fish_complete_suffix .keeps)'
+complete -c ceptre -n '__ceptre_words 1' -a dead -d 'list the rules of a world that can never apply'
+complete -c ceptre -n '__ceptre_at 2 dead' -k -a '(__fish_complete_suffix .cep)'
+
+for place in '-c ceptre-explain' '-p */tools/explain'
+    set -l at (string split ' ' -- $place)
+    complete $at -f
+    complete $at -l help -d 'what it does'
+    complete $at -l version -d 'its version'
+    complete $at -l all -d 'several refusals'
+    complete $at -l hints -d 'of an accepted world the hints alone'
+    complete $at -x -l format -a 'text gcc' -d 'as lines for people'
+    complete $at -n '__ceptre_arguments -eq 1' -k -a '(__fish_complete_suffix .cep)'
+    complete $at -n '__ceptre_arguments -eq 2' -k -a '(__fish_complete_suffix .log)'
 end
-for script in explain follow grade replay why
-    complete -p "*/tools/$script" -n 'test (count (commandline -opc)) -ge 2' -k -a '(__fish_complete_suffix .log)'
+
+for place in '-c ceptre-follow' '-p */tools/follow'
+    set -l at (string split ' ' -- $place)
+    complete $at -f
+    complete $at -l help -d 'what it does'
+    complete $at -l version -d 'its version'
+    complete $at -x -l at -d 'the state after step K'
+    complete $at -x -l causes -d 'the earlier steps that step K rests on'
+    complete $at -l dot -d 'all of these causes'
+    complete $at -n '__ceptre_arguments -eq 1' -k -a '(__fish_complete_suffix .cep)'
+    complete $at -n '__ceptre_arguments -eq 2' -k -a '(__fish_complete_suffix .log)'
 end
-complete -p '*/tools/explain' -l all -d 'several refusals'
-complete -p '*/tools/explain' -l hints -d 'the hints alone'
-complete -p '*/tools/explain' -x -l format -a 'text gcc'
-complete -p '*/tools/follow' -x -l at -d 'the state after a step'
-complete -p '*/tools/follow' -x -l causes -d 'what a step rests on'
-complete -p '*/tools/follow' -l dot -d 'a picture for Graphviz'
-complete -p '*/tools/grade' -x -l goal -d 'an atom of the last state, and its points'
-complete -p '*/tools/grade' -x -l height -d 'the most that is allowed'
-complete -p '*/tools/grade' -x -l end -a 'quiet turns offers input typed atom state'
-complete -p '*/tools/grade' -r -F -l typed -d 'what all were to type'
-complete -p '*/tools/grade' -l json -d 'results for Gradescope'
-complete -p '*/tools/player' -r -F -l log -d 'keep the transcript'
-complete -p '*/tools/player' -r -F -l load -d 'begin with saved choices'
-complete -p '*/tools/player' -x -l from -k -a '(__fish_complete_suffix .log)' -d 'begin with a transcript'
-complete -p '*/tools/player' -x -l rows -d 'the rows of a page'
-complete -p '*/tools/player' -l plain -d 'without prose'
-complete -p '*/tools/player' -n 'test (count (commandline -opc)) -ge 2' -a 'seed= height= turns='
-complete -p '*/tools/replay' -l typed -d 'write what is typed'
-complete -p '*/tools/replay' -l words -d 'write the options of play'
-complete -p '*/tools/sample' -x -l runs -d 'how many runs'
-complete -p '*/tools/sample' -l players-by-seed -d 'draw what a player chooses'
-complete -p '*/tools/sample' -x -l height
-complete -p '*/tools/sample' -x -l goal -d 'count the last states that have it'
-complete -p '*/tools/sample' -l csv -d 'a row for each run'
-for script in grade replay sample
-    complete -p "*/tools/$script" -x -l seed
-    complete -p "*/tools/$script" -x -l turns
+
+for place in '-c ceptre-format' '-p */tools/format'
+    set -l at (string split ' ' -- $place)
+    complete $at -f
+    complete $at -l help -d 'what it does'
+    complete $at -l version -d 'its version'
+    complete $at -l check -d 'write nothing'
+    complete $at -n '__ceptre_arguments -ge 1' -k -a '(__fish_complete_suffix .cep)'
 end
+
+for place in '-c ceptre-grade' '-p */tools/grade'
+    set -l at (string split ' ' -- $place)
+    complete $at -f
+    complete $at -l help -d 'what it does'
+    complete $at -l version -d 'its version'
+    complete $at -x -l goal -a '(__ceptre_names atoms)' -d 'an atom of the last state'
+    complete $at -x -l height -d 'the most that is allowed'
+    complete $at -x -l end -a 'quiet turns offers input typed atom state' -d 'the end word that is asked'
+    complete $at -r -F -l typed -d 'what all were to type'
+    complete $at -x -l seed -d 'the seed of what is played again'
+    complete $at -x -l turns -d 'the turns of what is played again'
+    complete $at -l json -d 'in the shape of Gradescopes results.json'
+    complete $at -x -l jobs -d 'how many at once'
+    complete $at -n '__ceptre_arguments -eq 1' -k -a '(__fish_complete_suffix .cep)'
+    complete $at -n '__ceptre_arguments -ge 2' -k -a '(__fish_complete_suffix .log)'
+end
+
+for place in '-c ceptre-player' '-p */tools/player'
+    set -l at (string split ' ' -- $place)
+    complete $at -f
+    complete $at -l help -d 'what it does'
+    complete $at -l version -d 'its version'
+    complete $at -r -F -l log -d 'keep the transcript'
+    complete $at -r -F -l load -d 'begin with the choices that were saved there'
+    complete $at -x -l from -k -a '(__fish_complete_suffix .log)' -d 'begin with the steps of this transcript'
+    complete $at -x -l rows -d 'the rows of a page'
+    complete $at -l plain -d 'the programs own texts'
+    complete $at -n '__ceptre_arguments -eq 1' -k -a '(__fish_complete_suffix .cep)'
+    complete $at -n '__ceptre_arguments -ge 2' -a 'seed= height= turns='
+end
+
+for place in '-c ceptre-replay' '-p */tools/replay'
+    set -l at (string split ' ' -- $place)
+    complete $at -f
+    complete $at -l help -d 'what it does'
+    complete $at -l version -d 'its version'
+    complete $at -x -l seed -d 'as for ceptre play'
+    complete $at -x -l turns -d 'as for ceptre play'
+    complete $at -l typed -d 'write what is typed'
+    complete $at -l words -d 'write the options of ceptre play for it'
+    complete $at -n '__ceptre_arguments -eq 1' -k -a '(__fish_complete_suffix .cep)'
+    complete $at -n '__ceptre_arguments -eq 2' -k -a '(__fish_complete_suffix .log)'
+end
+
+for place in '-c ceptre-sample' '-p */tools/sample'
+    set -l at (string split ' ' -- $place)
+    complete $at -f
+    complete $at -l help -d 'what it does'
+    complete $at -l version -d 'its version'
+    complete $at -x -l runs -d 'how many runs '
+    complete $at -x -l seed -d 'the seed of the first run '
+    complete $at -l players-by-seed -d 'draw what a player chooses'
+    complete $at -x -l height -d 'as for ceptre play'
+    complete $at -x -l turns -d 'as for ceptre play'
+    complete $at -x -l goal -a '(__ceptre_names atoms)' -d 'count the last states that have it'
+    complete $at -l csv -d 'a row for each run in place of the table'
+    complete $at -x -l jobs -d 'how many at once'
+    complete $at -n '__ceptre_arguments -eq 1' -k -a '(__fish_complete_suffix .cep)'
+end
+
+for place in '-c ceptre-server' '-p */tools/server'
+    set -l at (string split ' ' -- $place)
+    complete $at -f
+    complete $at -l help -d 'what it does'
+    complete $at -l version -d 'its version'
+end
+
+for place in '-c ceptre-why' '-p */tools/why'
+    set -l at (string split ' ' -- $place)
+    complete $at -f
+    complete $at -l help -d 'what it does'
+    complete $at -l version -d 'its version'
+    complete $at -n '__ceptre_arguments -eq 1' -k -a '(__fish_complete_suffix .cep)'
+    complete $at -n '__ceptre_arguments -eq 2' -k -a '(__fish_complete_suffix .log)'
+    complete $at -n '__ceptre_arguments -eq 4' -a '(__ceptre_names rules)'
+end
+# end of what is made

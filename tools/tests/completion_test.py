@@ -39,7 +39,7 @@ def offers(told):
 
 def by_bash(*words, folder=TOP):
     """What bash offers for the last of these words."""
-    name = "_ceptre_script" if words[0].startswith("tools/") else "_ceptre"
+    name = "_ceptre" if words[0] == "ceptre" else "_ceptre_script"
     script = f'source "$0"; COMP_WORDS=("$@"); COMP_CWORD=$(($# - 1)); {name}; printf "%s\\\\n" "${{COMPREPLY[@]}}"'
     return offers(said("bash", "-c", script, BASH, *words, folder=folder))
 
@@ -116,6 +116,14 @@ class Bash(Shells, unittest.TestCase):
             ]:
                 with self.subTest(words=words):
                     self.assertEqual(self.complete(*words, folder=folder), wanted)
+
+    def test_rules_and_atoms_of_the_world(self):
+        world = os.path.join(TOP, "worlds", "apple.cep")
+        self.assertEqual(self.complete("tools/why", world, "x.log", "0", ""), ["eat", "sell"])
+        self.assertIn("apple ann", self.complete("tools/grade", world, "--goal", "app"))
+
+    def test_a_script_that_is_installed(self):
+        self.assertEqual(self.complete("tools/why", "--"), self.complete("ceptre-why", "--"))
 
     def test_a_name_with_a_space_is_quoted(self):
         with tempfile.TemporaryDirectory() as folder:

@@ -8,7 +8,7 @@ import unittest
 from setting import TOP, read
 
 TEXT = read(TOP, "CONTRIBUTING.md")
-RECIPES = TEXT.split("## Five recipes")[1]
+RECIPES = TEXT.split("## Five recipes")[1].split("\n## ")[0]
 
 
 def git(*words):

@@ -10,8 +10,8 @@ import tempfile
 import unittest
 
 from setting import TOP, WORLDS, read, tool, world_names
-from language import RESERVED, tokens
-from program import refusal
+from ceptre_tools.program import refusal
+from ceptre_tools.tokens import RESERVED, tokens
 
 FOLDER = os.path.join(TOP, "editors", "textmate")
 GRAMMAR = os.path.join(FOLDER, "ceptre.tmLanguage.json")
@@ -32,10 +32,11 @@ SCOPES = {
     "mark": ("punctuation", "ceptreMark"),
     "bad": ("invalid.illegal", "ceptreError"),
     "comment": ("comment.line.percentage", "ceptreComment"),
+    "template": ("string.unquoted.template", "ceptreTemplate"),
 }
 
 # Tokens that touch one another, and what begins none.
-EDGES = "typed stage/one qui' _x X' n1 12a p:pred.a-o b<-c $(D)*e ! ; fact #trace#x % -o {\nbwd: type\n"
+EDGES = "typed stage/one qui' _x X' n1 12a p:pred.a-o b<-c $(D)*e ! ; fact #trace#x #foo % -o {\nbwd: type\n"
 
 
 def texts():
@@ -54,10 +55,12 @@ def wanted(text):
             kind = "declared"
         elif token.text in ("*", "$"):
             kind = "operator"
+        elif kind == "directive" and token.text not in ("#trace", "#interactive"):
+            kind = "bad"
         found[token.line, token.column] = kind
     for number, line in enumerate(lines, 1):
         if "%" in line:
-            found[number, line.index("%") + 1] = "comment"
+            found[number, line.index("%") + 1] = "template" if "%:" in line else "comment"
     return found
 
 

@@ -12,13 +12,11 @@ import tempfile
 import unittest
 from concurrent.futures import ThreadPoolExecutor
 
-from setting import TOOLS, TOP, module_of, read, tool, world_names
-import hints
-import limits
-import verdicts
-from language import read_text
-from program import MOST_LOG, MOST_WORLD, refusal, refusal_of
-from telling import mends, reasons
+from setting import TOOLS, TOP, read, tool, world_names
+from ceptre_tools.explain import hints, limits, report, transcripts
+from ceptre_tools.explain.refusal import Refusal, mends, reasons
+from ceptre_tools.program import MOST_LOG, MOST_WORLD, refusal, refusal_of
+from ceptre_tools.text import read_text
 
 FOLDER = os.path.join(TOP, "tools", "tests", "explain")
 APPLE = os.path.join(TOP, "worlds", "apple.cep")
@@ -59,13 +57,12 @@ class Explain(unittest.TestCase):
         return path
 
     def test_each_text_is_explained_as_it_was(self):
-        explain = module_of("explain")
         names = sorted(name for name in os.listdir(FOLDER) if name.endswith(".cep"))
         self.assertGreaterEqual(len(names), 60)
 
         def told_again(name):
             path = os.path.join(FOLDER, name)
-            return explain.explanation(name, read_text(path), refusal(path))
+            return report.lines(Refusal.of(read_text(path), refusal(path)), name)
 
         with ThreadPoolExecutor(os.cpu_count()) as pool:
             for name, lines in zip(names, pool.map(told_again, names)):
@@ -174,6 +171,45 @@ class Explain(unittest.TestCase):
         self.assertEqual((status, errors), (1, ""))
         self.assertIn("caf\\xe9 : place.", output)
 
+    def test_a_stage_that_nothing_declares(self):
+        world = "a : pred. over/it : pred.\nstage main = { r : a -o a. }\n{}qui * stage main -o stage over.\n"
+        path = self.written(world.replace("{}", "") + "#trace _ main { a }.\n")
+        _, output, _ = tool("explain", path)
+        self.assertIn("likely: a name that nothing declares\n", output)
+        self.assertIn("wanted: a stage, such as `main`; perhaps `stage over = {}`\n", output)
+        self.assertNotIn("did you mean", output)
+
+    def test_the_variable_that_nothing_says(self):
+        world = "t : type. x : t. near t t : bwd. a t : pred.\nnear A B.\n"
+        path = self.written(world + "stage main = { r : a A * near A C -o a C. }\n#trace _ main { a x }.\n")
+        self.assertIn("mend:   Say which C, by a premise", tool("explain", path)[1])
+
+    def test_claims_are_explained(self):
+        for text, status, said in [
+            ("% ours\nkeep coins = 1 coin\n", 0, "coins is kept: the start weighs 1\n"),
+            ("fall all = 1 apple\n", 1, "all is not kept: the rule sell takes 1 and puts 1\n"),
+            ("keep x = 1 none\n", 1, ":1: KeepName\n    1 | keep x = 1 none\nreason: A part of the sum"),
+        ]:
+            with self.subTest(text=text):
+                answer = tool("explain", APPLE, self.written(text, "w.keeps"))
+                self.assertIn(said, answer[1])
+                self.assertEqual((answer[0], answer[2]), (status, ""))
+
+    def test_files_that_are_not_there_are_named_as_by_the_command(self):
+        self.assertEqual(tool("explain", "none.cep"), (3, "", "explain: there is no file none.cep\n"))
+        self.assertEqual(tool("explain", "worlds"), (3, "", "explain: worlds is a folder\n"))
+
+    def test_a_name_that_is_not_utf_8(self):
+        path = os.path.join(os.fsencode(self.folder), b"caf\xe9.cep")
+        shutil.copy(APPLE, path)
+        done = subprocess.run([os.path.join(TOOLS, "explain").encode(), path], capture_output=True, check=False)
+        self.assertEqual(done.returncode, 0, done.stderr)
+        self.assertIn(b": accepted\n", done.stdout)
+
+    def test_templates_that_do_not_fit(self):
+        path = self.written(read(APPLE) + '%: fly "x"\n')
+        self.assertIn(":1: hint: the world has no rule, thing or predicate fly\n", tool("explain", path)[1])
+
     def test_a_transcript_in_place_of_the_world(self):
         _, output, _ = tool("explain", "worlds/apple.log", "worlds/apple.cep")
         self.assertIn("the world comes first", output.splitlines()[0])
@@ -203,7 +239,7 @@ context none = { p c }.
 """
 
     def found(self, text):
-        return [f"{hint.line}:{hint.column} {hint.said}" for hint in hints.found(text)]
+        return [f"{hint.line}:{hint.column} {hint.said}" for hint in hints.hints(text)]
 
     def test_each_hint(self):
         told = [
@@ -232,7 +268,7 @@ context none = { p c }.
     def test_no_hint_on_the_worlds_but_where_a_comment_says_why(self):
         for name in world_names():
             with self.subTest(world=name):
-                self.assertEqual(hints.found(read(TOP, "worlds", name + ".cep")), [])
+                self.assertEqual(hints.hints(read(TOP, "worlds", name + ".cep")), [])
 
     def test_hints_are_told_after_accepted_and_alone(self):
         with tempfile.NamedTemporaryFile("w", suffix=".cep") as file:
@@ -315,10 +351,18 @@ class Transcripts(unittest.TestCase):
         _, output, _ = self.told(text.encode(), "--format=gcc")
         self.assertIn(":9:1: error: NotContained: The step takes", output)
 
+    def test_the_premise_that_is_not_proved(self):
+        world, log = (os.path.join(TOP, "worlds", "dungeon" + end) for end in (".cep", ".log"))
+        with tempfile.NamedTemporaryFile("w", suffix=".log") as file:
+            file.write(read(log).replace("A=gate B=yard [1]]", "A=gate B=yard [2]]", 1))
+            file.flush()
+            _, output, _ = tool("explain", world, file.name)
+        self.assertIn("reason: The derivation of backward premise 1 does not prove it\n", output)
+
     def test_each_cause_of_the_formats_has_its_words(self):
         table = read(TOP, "docs", "FORMATS.md").split("| such as |")[1].split("\n\n")[0]
         causes = set(re.findall(r"^\| `(?:LINE|0) (\w+)", table, re.MULTILINE)) - {"NewTooLong"}
-        self.assertEqual(causes, set(verdicts.MEANINGS))
+        self.assertEqual(causes, set(transcripts.MEANINGS))
 
 
 if __name__ == "__main__":

@@ -8,11 +8,12 @@ import tempfile
 import unittest
 
 from setting import HUNDRED, ROUNDS, TOP, WORLDS
-from setting import called, module_of, read, tool, typed_and_words, usage, world_names
-from language import read_world
-from program import CannotRun
-from token_graph import causes_of, drawn, edges, told_causes
-from transcript import Transcript
+from setting import called, read, tool, typed_and_words, usage, world_names
+from ceptre_tools.follow.graph import causes_of, drawn, edges, lines_of_causes
+from ceptre_tools.follow.main import lines_of, state_at
+from ceptre_tools.program import CannotRun
+from ceptre_tools.transcript import Transcript, listing
+from ceptre_tools.world import read_world
 
 WALK = ("worlds/walk.cep", "worlds/walk.log")
 
@@ -102,24 +103,22 @@ class Follow(unittest.TestCase):
         self.assertEqual([step.after for step in log.steps], [{}] * 99 + [{"a": 7}])
 
     def test_the_state_at_each_step_is_that_of_a_run_that_ends_there(self):
-        follow = module_of("follow")
         for name in world_names():
             world = read_world(read(WORLDS, name + ".cep"))
             log = Transcript.of(read(WORLDS, name + ".log"))
-            self.assertEqual(follow.state_at(world, log, len(log.steps))[1:], follow.listing(world, log.last))
+            self.assertEqual(state_at(world, log, len(log.steps))[1:], listing(world, log.last))
             most = len(log.steps)
             for at in sorted({most // 2, most - 1} & set(range(1, most))):
                 with self.subTest(world=name, at=at):
-                    state = follow.state_at(world, log, at)
+                    state = state_at(world, log, at)
                     self.assertEqual(state[1:], end_listing(name, at))
 
     def test_each_world_is_told_whole(self):
-        follow = module_of("follow")
         for name in world_names():
             with self.subTest(world=name):
                 world = read_world(read(WORLDS, name + ".cep"))
                 log = Transcript.of(read(WORLDS, name + ".log"))
-                lines = follow.told(world, log)
+                lines = lines_of(world, log)
                 steps = [line for line in lines if line.startswith("step ")]
                 self.assertEqual(len(steps), len(log.steps))
                 self.assertIn(f"end {log.end}", lines)
@@ -224,10 +223,10 @@ class Graph(unittest.TestCase):
 
     def test_what_is_told(self):
         causes = causes_of(CAUSES)
-        self.assertEqual("\n".join(told_causes(OFFERS, causes, 5)) + "\n", WHY)
+        self.assertEqual("\n".join(lines_of_causes(OFFERS, causes, 5)) + "\n", WHY)
         leaves = "  leaves a stage, so it comes after all steps before it"
-        self.assertEqual(told_causes(OFFERS, causes, 6), ["step 6: back", "  rests on the start alone", leaves])
-        told = told_causes(OFFERS, causes, 3)
+        self.assertEqual(lines_of_causes(OFFERS, causes, 6), ["step 6: back", "  rests on the start alone", leaves])
+        told = lines_of_causes(OFFERS, causes, 3)
         self.assertEqual(told[:3], ["step 3: over", "  rests on step 2: give A=(s (s z)) B=ann", leaves])
 
     def test_what_is_drawn(self):
@@ -307,7 +306,8 @@ class Stand(unittest.TestCase):
         for cause, said in [
             ("echo usage: play; exit 2", "follow: this program has no command `cause`\n"),
             ("echo cannot read program; exit 7", "follow: cannot read program\n"),
-            ("exit 9", "follow: the program ended with status 9\n"),
+            ("exit 8", "follow: the program ended with status 8\n"),
+            ("exit 9", "follow: out of memory\n"),
             ("echo step 2", "follow: line 1 of what `cause` writes says no causes of step 1: step 2\n"),
             ("echo step 1", "follow: `cause` tells 1 of 2 steps\n"),
         ]:

@@ -6,11 +6,12 @@ import json
 import os
 import subprocess
 import tempfile
+import time
 import unittest
 
 from setting import HUNDRED, ROUNDS, TOOLS, TOP, WORLDS, called, read, tool
-from grading import cell, claims
-from transcript_causes import MENDS, TOO_LONG, likely
+from ceptre_tools.explain.transcripts import LARGE, MENDS, TOO_LONG, likely
+from ceptre_tools.grade.grading import cell, claims
 
 COLUMNS = "file,verdict,line,cause,likely,text,steps,height,end,same"
 HEAD = COLUMNS + ",unmet\n"
@@ -208,8 +209,8 @@ class Strange(Folder):
         self.assertEqual(self.row("ceptre 2\n=cmd()\n")["height"], "")
         self.assertEqual(self.row("ceptre 2\nheight 7x\n")["height"], "")
         self.assertEqual(self.row("ceptre 2\nheight 7\nend =cmd()\n")["end"], "")
-        self.assertEqual(claims(["ceptre 1", "? x", "height 9", "end turns"]), ("9", "turns"))
-        self.assertEqual(claims([""]), ("", ""))
+        self.assertEqual(claims("ceptre 1\n? x\nheight 9\nend turns\n"), ("9", "turns"))
+        self.assertEqual(claims(""), ("", ""))
 
     def test_a_formula(self):
         for text in ("=HYPERLINK(1)", "+1", "-1", "@a", "\tx"):
@@ -241,6 +242,54 @@ class Strange(Folder):
         with open("/dev/full", "w", encoding="utf-8") as full:
             done = subprocess.run(command, cwd=TOP, stdout=full, stderr=subprocess.PIPE, text=True, check=False)
         self.assertEqual((done.returncode, done.stderr.count("\n")), (3, 1), done.stderr)
+
+
+class Trial(Folder):
+    """What a teacher met who tried it."""
+
+    def test_a_row_for_each_file_whatever_it_is(self):
+        log = read(WORLDS, "castle.log")
+        self.written(log, "a.log")
+        self.written(log, "D.LOG")
+        self.written(log, "game.txt")
+        os.mkfifo(os.path.join(self.folder, "f.log"))
+        os.mkdir(os.path.join(self.folder, "empty"))
+        empty = os.path.join(self.folder, "empty")
+        status, output, errors = called("grade", CASTLE, self.folder, empty, "worlds/none.log")
+        self.assertEqual(status, 3)
+        found = {os.path.basename(row["file"]): (row["verdict"], row["cause"]) for row in rows(output)}
+        self.assertEqual(found["a.log"][0], "accepted")
+        self.assertEqual(found["D.LOG"][0], "accepted")
+        self.assertEqual(found["f.log"], ("unread", "no file"))
+        self.assertEqual(found["empty"], ("unread", "no file of this folder ends with .log"))
+        self.assertEqual(found["none.log"][0], "unread")
+        self.assertIn("game.txt: passed over", errors)
+
+    def test_one_file_that_is_missing_beside_a_transcript(self):
+        log = read(WORLDS, "apple.log")
+        self.written(log, "a.log")
+        self.written(log, "b.log")
+        self.written(read(WORLDS, "apple.in"), "a.in")
+        status, output, _ = called("grade", "worlds/apple.cep", self.folder, "--typed", ".in")
+        found = [(row["verdict"], row["cause"]) for row in rows(output)]
+        missing = f"there is no file {os.path.join(self.folder, 'b.in')}"
+        self.assertEqual((status, found), (3, [("accepted", ""), ("unread", missing)]))
+
+    def test_a_log_that_is_cut_inside_a_line(self):
+        log = read(WORLDS, "castle.log")
+        for length in (30, 33, 50, 200):
+            _, output, _ = called("grade", CASTLE, self.written(log[:-length]))
+            self.assertEqual(rows(output)[0]["likely"], "cut before its end", log[-length - 9 : -length])
+
+    def test_a_long_transcript_is_quick(self):
+        log, step = read(WORLDS, "apple.log"), "? 1 eat P=ann\n? 2 sell P=ann Q=ben\n? choose\n"
+        start = log.index("? 1")
+        large = log[:start] + step * 1_200_000 + log[start:].replace("step eat P=ben", "step eat P=ann")
+        path, begun = self.written(large), time.process_time()
+        _, output, _ = called("grade", "worlds/apple.cep", path)
+        self.assertIn("NotContained", output)
+        _, output, _ = called("explain", "worlds/apple.cep", path)
+        self.assertLess(time.process_time() - begun, 10)
 
 
 class Likely(Folder):
@@ -290,7 +339,8 @@ class Likely(Folder):
                 self.assertEqual(read(self.folder, "NEW"), log)
 
     def test_a_transcript_that_is_too_long(self):
-        self.assertEqual(likely("", "", "refused 0 TooLong"), [TOO_LONG])
+        self.assertEqual(likely("", "? a\n", "refused 0 TooLong"), ([TOO_LONG], ""))
+        self.assertEqual(likely("", "step a\n", "refused 0 TooLong"), ([LARGE], ""))
 
 
 if __name__ == "__main__":

@@ -12,11 +12,10 @@ from multiprocessing import get_context
 
 from setting import WORLDS, world_names
 
-# pylint: disable=wrong-import-position
-import causes
-import program
-from language import read_text, tokens
-from place import Place
+from ceptre_tools import program
+from ceptre_tools.explain.refusal import Refusal
+from ceptre_tools.text import read_text
+from ceptre_tools.tokens import tokens
 
 SEED = 3
 TRIES = 40
@@ -80,7 +79,7 @@ def told(text):
         return str(error), ""
     if line is None:
         return None
-    return causes.likely(Place.of(text, line), program.refusal_of).cause, line
+    return Refusal.of(text, line).cause, line
 
 
 def changed(kind, tries, seed):

@@ -59,8 +59,8 @@ class Pages(unittest.TestCase):
                     self.assertIn(anchor, set(anchors(read(TOP, path))), f"{page}: {to}")
 
     def test_headings_that_the_tools_name_are_there(self):
-        for name in ("causes.txt", "reasons.txt"):
-            for page, anchor in re.findall(r"\((docs/\w+\.md)#([\w-]+)\)", read(TOP, "tools", name)):
+        for name in ("causes.csv", "reasons.csv"):
+            for page, anchor in re.findall(r"\((docs/\w+\.md)#([\w-]+)\)", read(TOP, "tools", "ceptre_tools", "explain", name)):
                 self.assertIn(anchor, set(anchors(read(TOP, page))), f"{name}: {page}")
 
     def test_files_and_crates_are_there(self):

@@ -10,8 +10,9 @@ import time
 import unittest
 
 from setting import TOOLS, TOP, WORLDS, read, typed_and_words, world_names
-from language import read_text, read_world
-from prose import Prose
+from ceptre_tools.play.prose import Prose
+from ceptre_tools.text import read_text
+from ceptre_tools.world import read_world
 
 PLAYER = os.path.join(TOOLS, "player")
 APPLE = "worlds/apple.cep"
@@ -81,10 +82,10 @@ class Choices(Player):
     def test_save_and_load(self):
         saved, log = self.path("a save"), self.path("x.log")
         self.assertIn("Saved: 2 choices", self.play(f"1\n1\nsave {saved}\n"))
-        self.assertEqual(read(saved), "1\n1\n")
+        self.assertRegex(read(saved), r"^saved game of apple.cep, world [0-9a-f]{16}, seed 42\n1\n1\n$")
         self.play("history\n", "--load", saved, "--log", log)
         self.assertEqual(self.checked(APPLE, log), "accepted 2\n")
-        self.assertIn("No such file", self.play(f"load {saved}s\n"))
+        self.assertIn("there is no file", self.play(f"load {saved}s\n"))
         self.path("bad", "1\nx\n")
         self.assertIn("it has other lines", self.play(f"load {self.path('bad')}\n"))
         self.path("long", "2\n2\n1\n1\n")
@@ -98,7 +99,7 @@ class Choices(Player):
         self.assertEqual(read(log), read(WORLDS, "apple.log"))
         saved = self.path("saved")
         self.play(f"save {saved}\n2\n", "--from", begun, "--log", begun)
-        self.assertEqual((read(begun), read(saved)), (read(log), "1\n"))
+        self.assertEqual((read(begun), read(saved).split("\n", 1)[1]), (read(log), "1\n"))
 
     def test_from_a_transcript_of_a_height_and_a_seed(self):
         for name, words in [("dungeon", []), ("tictactoe", ["seed=9"])]:
@@ -114,7 +115,7 @@ class Choices(Player):
             ([APPLE, "--from", begun], f"{begun}: step 2: refused 13 NotContained have 0 need 1 apple ann"),
             ([APPLE, "--from", "README.md"], "README.md: step 0: refused 1 Line"),
             ([castle + ".cep", "height=1", "--from", castle + ".log"], "and the run ends there by quiet"),
-            ([APPLE, "--from", "none.log"], "No such file"),
+            ([APPLE, "--from", "none.log"], "there is no file none.log"),
         ]:
             with self.subTest(words=words):
                 command = [PLAYER, *words, "--log", log]
@@ -138,7 +139,7 @@ class Choices(Player):
         self.assertIn("  15  pick up  t15\n(1 to 15 of 40 offers; Enter", shown[0])
         self.assertTrue(shown[1].startswith("  16  pick up  t16\n"))
         self.assertTrue(shown[2].startswith("  31  ") and shown[3].startswith("   1  "))
-        self.assertIn("(1 to 11 of 11 of 40 offers;", shown[4])
+        self.assertIn("  19  pick up  t19\n(11 of 40 offers; `all` shows the others)\n", shown[4])
         self.assertIn("pick up  t30\n", shown[6])
 
     def test_plain(self):
@@ -176,7 +177,7 @@ class Prosaic(Player):
         world.rules = read_world(text).rules
         prose = Prose.of(text, world)
         faults = ["3: the rule qui/1 has no variable _1", "9: the world has no rule, thing or predicate gone"]
-        self.assertEqual(prose.faults, faults + ['10: it is no %: NAME "TEXT"'])
+        self.assertEqual([f"{fault.line}: {fault.said}" for fault in prose.faults], faults + ['10: it is no %: NAME "TEXT"'])
         self.assertEqual(prose.told("up X=(s (s z)) Y=(s z)"), "From s (s nothing) to 1")
         self.assertEqual(prose.offered("up X=z Y=z"), "Up")
         self.assertEqual(prose.atom("c (s (s z)) z", 3), "2 and nothing (x3)")
@@ -186,6 +187,120 @@ class Prosaic(Player):
         world = self.path("w.cep", MANY + '%: pick/up "{Y}"\n')
         done = subprocess.run([PLAYER, world], input="", capture_output=True, text=True, check=False)
         self.assertEqual(done.stderr, f"player: {world}:5: the rule pick/up has no variable Y\n")
+
+
+# Offers whose own words are those of commands, one that hides a thing, and two that read the same.
+WORDS = """\
+a : type. torn/letter : a. box : a.
+here a : pred. b : pred. odd : pred.
+stage main = {
+  save : here X -o b.       %: save "You save it." "Save the princess"
+  go : here X -o b.         %: go "You go." "Exit the house"
+  smoke : $here X * b -o b. %: smoke "You stop." "Quit smoking"
+  look : $odd -o ().        %: look "" "Open the well-known box"
+}
+#interactive main.
+#trace _ main { here torn/letter, here box, odd }.
+"""
+
+
+class Trial(Player):
+    """What people met who tried it."""
+
+    def test_an_offers_own_words_win(self):
+        world = self.path("w.cep", WORDS)
+        shown = self.play("save torn\n", world=world)
+        self.assertNotIn("Saved", shown)
+        saved = self.path("princess")
+        self.play("exit the house box\n", world=world)
+        self.assertIn("(2 of 5 offers;", self.play("exit the house\n", world=world))
+        self.assertIn("Saved: 0", self.play(f":save {saved}\n", world=world))
+        self.assertEqual(self.play(":quit\n1\n", world=world).count("> "), 1)
+
+    def test_words_are_beginnings_of_what_is_shown(self):
+        world = self.path("w.cep", WORDS)
+        self.assertIn("No offer has these words", self.play("no\n", world=world))
+        alone = self.path("alone.cep", WORDS.replace("here box, ", ""))
+        self.assertIn("No offer has these words", self.play("letter\n", world=alone))
+        self.assertNotIn("> \n", self.play("op\n", world=world))
+        self.assertIn("(1 of 5 offers;", self.play("op\n", world=world))
+
+    def test_an_empty_template_is_silent(self):
+        shown = self.play("open\n", world=self.path("w.cep", WORDS))
+        self.assertTrue(shown.split("> ")[1].startswith("   1  "), shown)
+
+    def test_offers_that_read_the_same_are_told_apart(self):
+        shown = self.play("", world=self.path("w.cep", WORDS))
+        self.assertIn("Save the princess [torn letter]\n", shown)
+        self.assertIn("Save the princess [box]\n", shown)
+
+    def test_what_is_no_saved_game_is_kept(self):
+        world = self.path("kept.cep", MANY)
+        self.assertIn("it is no saved game, and is kept", self.play(f"save {world}\n"))
+        self.assertEqual(read(world), MANY)
+        saved = self.path("game")
+        self.play(f"1\nsave {saved}\n")
+        self.assertIn("it was saved in another world, apple.cep", self.play(f"load {saved}\n", world=world))
+        self.assertIn("It was saved with seed=42, and this is seed=7.", self.play(f"load {saved}\n", "seed=7"))
+        self.assertIn("Saved: 0 choices", self.play(f"save {saved}\n"))
+
+    def test_undo_shows_the_last_step_alone(self):
+        world = self.path("w.cep", MANY)
+        shown = self.play("1\n" * 20 + "undo\n", "--rows", "1", world=world).split("> ")
+        self.assertEqual(shown[21].count("pick up"), 2)
+
+    def test_a_transcript_is_written_as_it_goes_and_goes_on_when_it_was_cut(self):
+        log = self.path("x.log")
+        command = [PLAYER, APPLE, "--log", log]
+        with subprocess.Popen(command, cwd=TOP, stdin=subprocess.PIPE, stdout=subprocess.PIPE) as player:
+            player.stdin.write(b"1\n")
+            player.stdin.flush()
+            while b"> sell" not in player.stdout.readline():
+                pass
+            player.stdout.readline()
+            player.kill()
+        self.assertIn("\nstep sell P=ann Q=ben\n", read(log))
+        self.assertIn("   1  sell  ann, ben\n", self.play("history\n", "--from", log))
+
+    def test_out_of_memory(self):
+        program = self.path("program", f"""#!/bin/sh
+[ "$1" = play ] || exec {os.environ['CEPTRE']} "$@"
+if [ -e "$0.full" ]; then exit 9; fi
+printf 'ceptre 2\\nheight 128\\nstage market\\n? 1 eat P=ann\\n? choose\\n'; read x; [ "$x" ] && exit 9
+""")
+        os.chmod(program, 0o755)
+        environment = {**os.environ, "CEPTRE": program}
+        done = subprocess.run([PLAYER, APPLE], cwd=TOP, input="1\n", capture_output=True, text=True, env=environment, check=False)
+        self.assertIn("Out of memory: that choice is undone.", done.stdout)
+        self.path("program.full", "")
+        done = subprocess.run([PLAYER, APPLE], cwd=TOP, input="1\n", capture_output=True, text=True, env=environment, check=False)
+        self.assertEqual((done.returncode, done.stderr), (3, "player: out of memory\n"))
+
+    def test_quotation_marks_and_names_that_two_things_have(self):
+        text = (
+            "a : type. x : a. lie a : pred. up : pred. down : pred.\n"
+            "stage main = { lie : lie X -o up. }\n"
+            '%: rule lie "He says \\\\"no\\\\", a \\\\\\\\."\n%: atom lie "{1} lies"\n%: rule down ""\n%: start "S \\\\"."\n'
+        ).replace("\\\\", "\\")
+        prose = Prose.of(text, read_world(text))
+        self.assertEqual(prose.told("lie X=x"), 'He says "no", a \\.')
+        self.assertEqual((prose.atom("lie x", 1), prose.start), ("X lies", 'S ".'))
+        self.assertEqual([fault.said for fault in prose.faults], ["the world has no rule down"])
+
+    def test_leaving_asks_if_choices_would_be_lost(self):
+        terminal = Terminal("until")
+        child, line = pty.fork()
+        if child == 0:
+            os.chdir(TOP)
+            os.execv(PLAYER, [PLAYER, APPLE])
+        terminal.until(line, b"> ")
+        for typed, prompt in ((b"1\n", b"> "), (b"quit\n", b"(y/n) "), (b"n\n", b"> "), (b"quit\n", b"(y/n) ")):
+            os.write(line, typed)
+            self.assertTrue(terminal.until(line, prompt).endswith(prompt), typed)
+        os.write(line, b"y\n")
+        terminal.until(line, None)
+        self.assertEqual(os.waitpid(child, 0)[1], 0)
+        os.close(line)
 
 
 class Terminal(Player):

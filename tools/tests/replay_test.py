@@ -6,7 +6,7 @@ import tempfile
 import unittest
 
 from setting import HUNDRED, ROUNDS, TOOLS, TOP, WORLDS, called, read, tool, typed_and_words, world_names
-from replaying import Differs, again, step_at
+from ceptre_tools.play.replay import Differs, again, step_at
 
 APPLE, NIM, WALK = ("worlds/apple.cep", "worlds/nim.cep", "worlds/walk.cep")
 

@@ -4,22 +4,18 @@ import contextlib
 import functools
 import io
 import os
+import importlib
 import re
 import subprocess
 import sys
-from importlib.machinery import SourceFileLoader
-from importlib.util import module_from_spec, spec_from_loader
-
-sys.dont_write_bytecode = True
 
 TOP = os.path.dirname(os.path.dirname(os.path.dirname(os.path.abspath(__file__))))
 TOOLS = os.path.join(TOP, "tools")
 WORLDS = os.path.join(TOP, "worlds")
 sys.path.insert(0, TOOLS)
 
-# pylint: disable=wrong-import-position
-from output import FAILED
-from program import CannotRun, run
+from ceptre_tools.program import run
+from ceptre_tools.terminal import answered
 
 # The gate tests what it has built.
 os.environ.setdefault("CEPTRE", os.path.join(TOP, "crates", "ceptre", "out", "ceptre"))
@@ -40,17 +36,14 @@ def tool(name, *words, folder=TOP, **environment):
 
 def called(name, *words):
     """The same as `tool` at the top, within this process, which is quicker."""
-    module, output, errors = module_of(name), io.StringIO(), io.StringIO()
+    work, output, errors = work_of(name), io.StringIO(), io.StringIO()
     argv, folder, sys.argv = sys.argv, os.getcwd(), [name, *words]
     os.chdir(TOP)
     try:
         with contextlib.redirect_stdout(output), contextlib.redirect_stderr(errors):
-            status = module.main()
+            status = answered(name, work)
     except SystemExit as end:
         status = end.code
-    except (CannotRun, OSError) as error:
-        status = FAILED
-        errors.write(f"{name}: {error}\n")
     finally:
         sys.argv = argv
         os.chdir(folder)
@@ -58,12 +51,11 @@ def called(name, *words):
 
 
 @functools.lru_cache(maxsize=None)
-def module_of(name):
-    """A tool as a module, for the tests that call it often."""
-    loader = SourceFileLoader(name, os.path.join(TOOLS, name))
-    module = module_from_spec(spec_from_loader(name, loader))
-    loader.exec_module(module)
-    return module
+def work_of(name):
+    """What a tool does with its words, for the tests that call it often."""
+    launcher = read(TOOLS, name)
+    module = importlib.import_module(re.search(r"^from (\S+) import main$", launcher, re.MULTILINE)[1])
+    return getattr(module, re.search(r'script\("\w+", (\w+)\)', read(module.__file__))[1])
 
 
 def read(*path):
@@ -73,8 +65,7 @@ def read(*path):
 
 def usage():
     """The usage line: the forms of each command, as words and options."""
-    _, lines = run()
-    forms = lines[0].removeprefix("usage: ").split(" | ")
+    forms = run().line.removeprefix("usage: ").split(" | ")
     return {
         form.split()[0]: (
             [word for word in form.split()[1:] if "=" not in word],

@@ -7,12 +7,15 @@ import subprocess
 import unittest
 
 from setting import TOP, read, scripts, usage
+from ceptre_tools import commands
+from ceptre_tools.program import run
 
 MANUAL = os.path.join(TOP, "man", "ceptre.1")
 
 
 class Manual(unittest.TestCase):
     def test_the_forms_are_those_of_the_usage_line(self):
+        self.assertEqual(run().line, commands.usage())
         synopsis = read(MANUAL).split(".Sh SYNOPSIS\n")[1].split(".Sh ")[0]
         forms = {}
         for form in synopsis.split(".Nm\n")[1:]:
@@ -48,8 +51,8 @@ class Manual(unittest.TestCase):
         told = re.findall(r"^\.It Pa tools/(\w+)$", read(MANUAL), re.MULTILINE)
         self.assertEqual(sorted(told), scripts())
         readme = read(TOP, "README.md")
-        self.assertEqual([name for name in scripts() if f"- `tools/{name} " not in readme], [])
-        command = [os.path.join(TOP, ".ci", "manuals")]
+        self.assertEqual([name for name in scripts() if not re.search(rf"^- `tools/{name}[ `]", readme, re.MULTILINE)], [])
+        command = [os.path.join(TOP, ".ci", "commands"), "--check"]
         done = subprocess.run(command, capture_output=True, text=True, check=False)
         self.assertEqual((done.stdout, done.returncode), ("", 0))
 

@@ -1,0 +1,1 @@
+"""Transcripts shown step by step, and on which earlier steps each rests."""

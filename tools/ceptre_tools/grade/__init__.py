@@ -1,0 +1,1 @@
+"""Tables of what is right in transcripts that many people hand in."""
