@@ -18,8 +18,10 @@ syntax match ceptreVariable /[A-Z][A-Za-z0-9_\/']*/
 syntax match ceptreName /[a-z][A-Za-z0-9_\/']*/
 syntax match ceptreDeclared /[a-z][A-Za-z0-9_\/']*\ze\s*:/
 syntax match ceptreReserved /\%(type\|pred\|bwd\|fact\|stage\|context\|qui\)[A-Za-z0-9_\/']\@!/
-syntax match ceptreDirective /#[A-Za-z]\+/
+syntax match ceptreError /#[A-Za-z]\+/
+syntax match ceptreDirective /#\%(trace\|interactive\)[A-Za-z]\@!/
 syntax match ceptreComment /%.*/ contains=@Spell
+syntax match ceptreTemplate /%:.*/ contains=@Spell
 
 highlight default link ceptreError Error
 highlight default link ceptreMark Delimiter
@@ -33,5 +35,6 @@ highlight default link ceptreDeclared Function
 highlight default link ceptreReserved Keyword
 highlight default link ceptreDirective PreProc
 highlight default link ceptreComment Comment
+highlight default link ceptreTemplate String
 
 let b:current_syntax = "ceptre"
