@@ -49,10 +49,12 @@ def ended(status: int) -> str:
 @functools.lru_cache(maxsize=None)
 def found() -> str:
     """The path of the program of this checkout, which is built where no up-to-date one is there, or
-    else of the installation."""
+    else of the release or the installation."""
     finder = os.path.join(TOP, ".ci", "program")
     if not os.path.exists(finder):
-        return os.path.normpath(os.path.join(TOP, "..", "..", "lib", "ceptre", "ceptre"))
+        released = os.path.join(TOP, "lib", "ceptre", "ceptre")
+        installed = os.path.normpath(os.path.join(TOP, "..", "..", "lib", "ceptre", "ceptre"))
+        return released if os.path.exists(released) else installed
     done = subprocess.run([finder], stdout=subprocess.PIPE, check=False)
     if done.returncode != 0:
         raise CannotRun("there is no up-to-date program")

@@ -180,6 +180,7 @@ class Release(Setting):
         with open(os.path.join(release, "PROVED.txt"), encoding="utf-8") as file:
             self.assertRegex(file.read(), r"commit: [0-9a-f]{40}\nkit: .*\ngate: 185 passed, 0 failed\nneeds: .*glibc 2")
         self.assertEqual(call([os.path.join(release, "ceptre"), "check", "worlds/apple.cep", "worlds/apple.log"], cwd=release)[0], 0)
+        self.assertEqual(call([os.path.join(release, "tools", "explain"), "worlds/apple.cep"], cwd=release)[::2], (0, ""))
         self.assertEqual(self.install(top=release)[0], 0)
         shutil.rmtree(there)
         self.plays()
