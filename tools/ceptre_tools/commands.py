@@ -49,6 +49,7 @@ class Option(NamedTuple):
     default: Any = None
     times: str = ""
     group: str = ""
+    short: str = ""
 
     @property
     def is_word(self) -> bool:
@@ -155,6 +156,17 @@ def count(text: str) -> int:
     if int(text) < 1:
         raise ValueError(text)
     return int(text)
+
+
+def between(least: int, most: int) -> Callable[[str], int]:
+    """A number within bounds."""
+
+    def number(text: str) -> int:
+        if not text.isdecimal() or not least <= int(text) <= most:
+            raise ValueError(text)
+        return int(text)
+
+    return number
 
 
 WORLD = Option("WORLD", "the file of the world", completed=".cep")
@@ -289,6 +301,37 @@ refused or cannot be done again, or something could not be read, run or written.
     needs_input=True,
 )
 
+PUBLISH = Script(
+    """Makes a page of a world: one file of HTML that plays it in a browser, from a disk or from anywhere, and
+asks nothing of a server. In it are the program, the world and its prose: offers as buttons, the story,
+the state, undo, saving and loading, the transcript, and the check of one. For several players it is
+played in rounds, one after another at one screen. With --transcript the page shows a transcript as a
+story to be walked through, from which one may go on. With --site it makes pages of all worlds of a
+folder, by the words beside each, and a list of them.
+
+The page runs the same sources as the program, by another back end of the compiler, and without proofs;
+what it did can be checked by `ceptre check`. docs/PUBLISH.md says how a world is made ready for it.""",
+    (
+        Option("WORLD", "the file of the world", completed=".cep", times="?"),
+        Option("--title", "the title of the page, or of the list; else the file's name", "T"),
+        Option(
+            "--output",
+            "where the page is written (NAME.html), or for --site the folder (site); -o FILE is the same",
+            "FILE",
+            completed="FILE",
+            short="-o",
+        ),
+        Option("--transcript", "show this transcript of the world", "LOG", completed=".log"),
+        Option("--site", "make pages of all worlds of this folder", "FOLDER", completed="FILE"),
+        Option("--players", "how many play in rounds, from 2 to 16", "N", kind=between(2, 16)),
+        Option("--seed", "the seed of the first game (42)", "N", kind=between(0, 2**64 - 1)),
+        Option("--height", "as for `ceptre play`, at most 128", "N", kind=between(1, 512)),
+        Option("--turns", "as for `ceptre play`", "N", kind=between(1, 1_000_000)),
+    ),
+    """0 it is written, and its path is printed; 1 a world or the transcript is refused and that is explained,
+or a height is over 128; 2 usage; 3 something could not be read, run, made or written.""",
+)
+
 REPLAY = Script(
     """Writes what a player would type to do the steps of a transcript again: for each step at which the
 program asks, the number of its offer as a line. So `tools/replay WORLD LOG | ./ceptre play WORLD`
@@ -372,6 +415,7 @@ SCRIPTS = {
     "format": FORMAT,
     "grade": GRADE,
     "player": PLAYER,
+    "publish": PUBLISH,
     "replay": REPLAY,
     "sample": SAMPLE,
     "server": SERVER,
@@ -409,7 +453,8 @@ def parser(name: str) -> argparse.ArgumentParser:
     groups = {name: made.add_mutually_exclusive_group() for name in names}
     for option in script.options:
         place = groups[option.group] if option.group else made
-        place.add_argument(option.name.lower() if option.is_word else option.name, **keywords(option))
+        names_of = [option.name.lower()] if option.is_word else [option.name, option.short]
+        place.add_argument(*filter(None, names_of), **keywords(option))
     return made
 
 

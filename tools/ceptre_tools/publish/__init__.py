@@ -1,0 +1,1 @@
+"""Worlds and transcripts as pages that play them in a browser."""
