@@ -4,7 +4,7 @@
 /** @typedef {{ name: string, file: string, sum: string, players: number, seed: string, options: string[],
  *   prose: Templates, walk: Walk | null }} Settings */
 /** @typedef {{ status: number, said: Uint8Array, broke: string }} Answer */
-/** @typedef {{ words: string[], files: Record<string, Uint8Array>, typed: Uint8Array }} Request */
+/** @typedef {{ words: string[], files: Record<string, Uint8Array>, typed: Uint8Array }} Asked */
 
 /** @param {string} id @returns {any} */
 const $ = (id) => document.getElementById(id);
@@ -26,7 +26,9 @@ const HEAD = /^saved game of (.*), world ([0-9a-f]{16}), seed ([0-9]+)$/;
 /** @type {Record<string, string>} */
 const ENDS = { quiet: "The end: nothing more can happen.", turns: "The end: all turns are over." };
 
-/** An element with a text. @param {string} name @param {string} text @param {string} kind */
+/** An element with a text.
+
+ * @param {string} name @param {string} text @param {string} kind */
 function element(name, text, kind = "") {
   const made = document.createElement(name);
   made.textContent = text;
@@ -54,6 +56,7 @@ function serve() {
 const program = {
   /** @type {Worker | null} */ worker: null,
   /** @type {WebAssembly.Module | null} */ compiled: null,
+  /** @type {Promise<void>} */ ready: Promise.resolve(),
   /** @type {Map<number, (answer: Answer | null) => void>} */ waiting: new Map(),
   calls: 0,
 
@@ -67,7 +70,7 @@ const program = {
     const source = new Blob([`${contentOf("loader")}\n(${serve})();`], { type: "text/javascript" });
     const at = URL.createObjectURL(source), worker = new Worker(at);
     worker.onmessage = ({ data }) => this.answer(data.id, data);
-    worker.onerror = () => this.stop();
+    worker.onerror = () => { if (this.waiting.size) this.stop(); };
     worker.postMessage({ compiled: this.compiled });
     this.worker = worker;
   },
@@ -83,8 +86,9 @@ const program = {
     this.start();
     for (const id of [...this.waiting.keys()]) this.answer(id, null);
   },
-  /** @param {Request} request @returns {Promise<Answer | null>} */
-  run(request) {
+  /** @param {Asked} request @returns {Promise<Answer | null>} */
+  async run(request) {
+    await this.ready;
     return new Promise((done) => {
       this.waiting.set(++this.calls, done);
       if (this.worker) this.worker.postMessage({ id: this.calls, request });
@@ -113,7 +117,7 @@ const game = {
   busy: false,
 };
 
-/** @param {number[]} typed @param {string} seed @returns {Request} */
+/** @param {number[]} typed @param {string} seed @returns {Asked} */
 function requestOf(typed, seed) {
   const words = [settings.players ? "rounds" : "play", settings.file, ...settings.options, `seed=${seed}`];
   const input = new TextEncoder().encode(typed.map((choice) => `${choice}\n`).join(""));
@@ -121,7 +125,7 @@ function requestOf(typed, seed) {
 }
 
 /** Runs the program while the page waits for it, and offers to stop it after a while.
- * @param {Request} request */
+ * @param {Asked} request */
 async function waited(request) {
   game.busy = true;
   $("game").setAttribute("aria-busy", "true");
@@ -135,16 +139,14 @@ async function waited(request) {
 }
 
 /** Plays all of these choices, and shows the game; or says why not, and the game stays as it was.
- * @param {number[]} typed @param {string} seed @param {string} said */
+ * @param {number[]} typed @param {string} seed @param {string} said @returns {Promise<boolean>} */
 async function play(typed, seed = game.seed, said = "") {
   if (game.busy) return false;
   const began = performance.now(), answer = await waited(requestOf(typed, seed)), why = failure(answer);
   if (!answer || why) { say(why); return false; }
   const run = readRun(textOf(answer.said));
-  if (run.choices < typed.length && !run.refusal) {
-    if (typed.length - run.choices > 1) said = `Only ${run.choices} of ${counted(typed.length, "choice")} could be made.`;
-    typed = typed.slice(0, run.choices);
-  }
+  const done = run.refused < 0 ? run.choices : run.refused;
+  if (done < typed.length) return play(typed.slice(0, done), seed, `Only ${done} of ${counted(typed.length, "choice")} could be made.`);
   Object.assign(game, { typed, seed, run, transcript: answer.said });
   say(said);
   show(run);
@@ -194,7 +196,9 @@ function show(run) {
   keys.focus = false;
 }
 
-/** What is told of a line of the run, which may be nothing. @param {Told} told */
+/** What is told of a line of the run, which may be nothing.
+
+ * @param {Told} told */
 function textOfTold({ kind, text }) {
   if (kind === "step") return sentence(prose.told(text));
   if (kind === "stage") return prose.stages.get(text) || "";
@@ -202,7 +206,8 @@ function textOfTold({ kind, text }) {
   return `Player ${text.slice(0, at)} cannot do that: ${prose.offered(text.slice(at + 1))}`;
 }
 
-/** What the story shows now, line by line, so that only what is new is added and read out. @type {string[]} */
+// What the story shows, line by line, so that only what is new is added and read out.
+/** @type {string[]} */
 let told = [];
 
 /** @param {Run} run */
@@ -241,7 +246,9 @@ function showState(state, by) {
 
 function showRaw() { $("raw").textContent = textOf(game.transcript); }
 
-/** The words of a text by which offers are found. @param {string} text */
+/** The words of a text by which offers are found.
+
+ * @param {string} text */
 const searched = (text) => text.toLowerCase().split(/[^0-9a-z\u0080-\uffff']+/).filter(Boolean);
 
 const offers = {
@@ -260,7 +267,8 @@ const offers = {
     $("words").value = "";
     this.filter("");
   },
-  /** Shows the offers that have words which begin so. @param {string} text */
+  /** Shows the offers that have words which begin so.
+   * @param {string} text */
   filter(text) {
     const words = searched(text);
     this.found = [];
@@ -315,7 +323,9 @@ function load(text) {
   play(lines.slice(1).map(Number), head[3], `Loaded: ${counted(lines.length - 1, "choice")}.`);
 }
 
-/** Says what the program's checker says of a transcript. @param {string} name @param {Uint8Array} log */
+/** Says what the program's checker says of a transcript.
+
+ * @param {string} name @param {Uint8Array} log */
 async function check(name, log) {
   if (game.busy) return;
   const files = { [settings.file]: world, "game.log": log };
@@ -326,14 +336,18 @@ async function check(name, log) {
   else say(`${name} is refused at line ${count}: ${cause.join(" ")}.`);
 }
 
-/** Loads a saved game, or checks a transcript. @param {File} file */
+/** Loads a saved game, or checks a transcript.
+
+ * @param {File} file */
 async function take(file) {
   const bytes = new Uint8Array(await file.arrayBuffer());
   if (HEAD.test(textOf(bytes.slice(0, 1000)).split(/\r?\n/)[0])) load(textOf(bytes));
   else await check(file.name, bytes);
 }
 
-/** Uses the browser's own store, which some browsers refuse to a file. @param {() => void} work */
+/** Uses the browser's own store, which some browsers refuse to a file.
+
+ * @param {() => void} work */
 function stored(work) {
   try { work(); } catch { say("This browser keeps nothing for this page: save as a file instead."); }
 }
@@ -357,7 +371,8 @@ const keys = {
     else return;
     event.preventDefault();
   },
-  /** Takes digits, and waits for more where there may be more. @param {string} digits @param {number} most */
+  /** Takes digits, and waits for more where there may be more.
+   * @param {string} digits @param {number} most */
   digit(digits, most) {
     clearTimeout(this.timer);
     this.number = Number(digits) >= 1 && Number(digits) <= most ? digits : "";
@@ -373,7 +388,8 @@ const keys = {
     keys.focus = true;
     choose(number);
   },
-  /** Moves the focus among the offers. @param {number} by */
+  /** Moves the focus among the offers.
+   * @param {number} by */
   move(by) {
     const buttons = [...$("offers").querySelectorAll("button")], at = buttons.indexOf(document.activeElement);
     const to = at < 0 ? (by > 0 ? 0 : buttons.length - 1) : at + by;
@@ -421,7 +437,9 @@ function listen() {
 $("seed").value = settings.seed;
 $("text").textContent = textOf(world);
 listen();
-program.begin().then(() => settings.walk ? walk.begin(settings.walk) : play([])).then(
+program.ready = program.begin();
+if (settings.walk) walk.begin(settings.walk);
+program.ready.then(() => settings.walk ? true : play([])).then(
   () => { document.body.dataset.ready = "yes"; },
   (error) => say(`This browser does not run the page: ${error}`),
 );

@@ -6,7 +6,7 @@
  *   stages: Record<string, string>, ends: Record<string, string>, start: string }} Templates */
 /** @typedef {{ kind: "step" | "stage" | "blocked", text: string, choices: number }} Told */
 /** @typedef {{ refusal: string, stage: string, told: Told[], offers: string[], asks: boolean, player: number,
- *   choices: number, state: { copies: number, atom: string }[], end: string }} Run */
+ *   choices: number, refused: number, state: { copies: number, atom: string }[], end: string }} Run */
 
 /** @param {string} name */
 const readable = (name) => name.replace(/[/_]/g, " ");
@@ -103,10 +103,14 @@ class Prose {
     return readable(rule) + (values.length ? this.gap : "") + values.map(([, term]) => this.phrase(term)).join(", ");
   }
 
-  /** What the step says that an offer stands for. @param {string} offer */
+  /** What the step says that an offer stands for.
+
+   * @param {string} offer */
   told(offer) { return this.ofOffer(offer, (this.rules.get(offer.split(" ")[0]) || [null])[0]); }
 
-  /** How an offer reads. @param {string} offer */
+  /** How an offer reads.
+
+   * @param {string} offer */
   offered(offer) { return this.ofOffer(offer, (this.rules.get(offer.split(" ")[0]) || ["", null])[1] || null); }
 
   /** How offers read, with the difference in brackets between those that would read the same.
@@ -132,7 +136,9 @@ class Prose {
     }
   }
 
-  /** An atom of a state. @param {string} text @param {number} copies */
+  /** An atom of a state.
+
+   * @param {string} text @param {number} copies */
   atom(text, copies) {
     const phrase = this.phrase(termOf(text)), said = this.words.has(text.split(" ")[0]) ? sentence(phrase) : phrase;
     return copies === 1 ? said : `${said} (x${copies})`;
@@ -143,7 +149,7 @@ class Prose {
  * @param {string} text @returns {Run} */
 function readRun(text) {
   /** @type {Run} */
-  const run = { refusal: "", stage: "", told: [], offers: [], asks: false, player: 0, choices: 0, state: [], end: "" };
+  const run = { refusal: "", stage: "", told: [], offers: [], asks: false, player: 0, choices: 0, refused: -1, state: [], end: "" };
   const lines = text.split("\n");
   let isListing = false;
   if (!lines[0].startsWith("ceptre ")) { run.refusal = lines[0]; return run; }
@@ -172,10 +178,9 @@ function readQuestion(run, rest, isListing) {
     run.choices++;
     run.player = Number(after || 1);
   } else if (word === "blocked") run.told.push({ kind: "blocked", text: after, choices: run.choices });
-  else if (word !== "no") {
+  else if (word === "no") run.refused = run.refused < 0 ? run.choices - 1 : run.refused;
+  else {
     if (!isListing) run.offers = [];
     run.offers.push(after);
   }
 }
-
-if (typeof module !== "undefined") module.exports = { Prose, readRun, wordsOf, termOf };

@@ -7,7 +7,9 @@
 
 const ROW = 28, GUTTER = 64, ROWS = 30, LINES = 200;
 
-/** An element of a picture. @param {string} name @param {Record<string, string | number>} given */
+/** An element of a picture.
+
+ * @param {string} name @param {Record<string, string | number>} given */
 function drawn(name, given) {
   const made = document.createElementNS("http://www.w3.org/2000/svg", name);
   for (const [key, value] of Object.entries(given)) made.setAttribute(key, String(value));
@@ -40,7 +42,9 @@ const walk = {
     this.go(0);
   },
 
-  /** Goes to the state after a step; 0 is the start. @param {number} to */
+  /** Goes to the state after a step; 0 is the start.
+
+   * @param {number} to */
   go(to) {
     const { steps } = this.log;
     to = Math.min(steps.length, Math.max(0, to));
@@ -60,7 +64,8 @@ const walk = {
   change(step, sign) {
     for (const [atom, more] of step.changes) this.copies[atom] += sign * more;
   },
-  /** What a step says, by its number; one that is silent is named. @param {number} number */
+  /** What a step says, by its number; one that is silent is named.
+   * @param {number} number */
   text(number) {
     if (!number) return prose.start || "The start.";
     const { offer } = this.log.steps[number - 1];
@@ -100,19 +105,24 @@ const walk = {
   },
   showCauses() {
     const step = this.log.steps[this.at - 1], after = step ? step.after : [], all = this.causes();
-    const rests = after.length ? `rests on step ${after.join(", ")}` : "rests on the start alone";
+    const numbers = after.length > 1 ? `s ${after.slice(0, -1).join(", ")} and ${after[after.length - 1]}` : ` ${after[0]}`;
+    const rests = after.length ? `rests on step${numbers}` : "rests on the start alone";
     const leaves = step && step.leaves ? "; it leaves a stage, so it comes after all steps before it" : "";
     $("rests").textContent = step ? `Step ${this.at} ${rests}${leaves}.` : "This is how it began.";
     if (all.length > ROWS) $("rests").textContent += ` Of ${all.length} steps the last ${ROWS} are drawn.`;
     this.draw(all.slice(-ROWS));
   },
-  /** A row for each step, and an arc from each to those that rest on it. @param {number[]} rows */
+  /** A row for each step, and an arc from each to those that rest on it.
+   * @param {number[]} rows */
   draw(rows) {
     const made = [], row = new Map(rows.map((number, n) => [number, n * ROW + ROW / 2]));
+    const letters = Math.floor(($("causes").clientWidth - GUTTER) / 8);
     for (const [number, y] of row) {
       const link = drawn("a", { tabindex: 0, role: "button" }), label = drawn("text", { x: GUTTER + 12, y: y + 5 });
-      label.textContent = `${number}  ${this.text(number)}`;
-      link.append(drawn("circle", { cx: GUTTER, cy: y, r: number === this.at ? 6 : 4 }), label);
+      const whole = drawn("title", {}), text = `${number}  ${this.text(number)}`;
+      whole.textContent = text;
+      label.textContent = text.length > letters ? `${text.slice(0, letters - 2)}..` : text;
+      link.append(whole, drawn("circle", { cx: GUTTER, cy: y, r: number === this.at ? 6 : 4 }), label);
       link.addEventListener("click", () => this.go(number));
       link.addEventListener("keydown", (event) => { if (event instanceof KeyboardEvent && event.key === "Enter") this.go(number); });
       made.push(link);

@@ -19,7 +19,7 @@ MISSING = "" if DRIVER and BROWSER else "chromium-driver is not installed"
 
 ELEMENT = "element-6066-11e4-a52e-4f735466cecf"
 WORDS = ("--headless=new", "--no-sandbox", "--disable-gpu", "--disable-dev-shm-usage", "--no-first-run", "--force-device-scale-factor=1")
-SECONDS = 30
+SECONDS = 20
 
 
 class Failed(AssertionError):
@@ -48,11 +48,11 @@ class Browser:
         options = {
             "binary": BROWSER,
             "args": [*WORDS, f"--user-data-dir={folder}/profile"],
-            "prefs": {"download.default_directory": folder},
         }
         wanted = {"goog:chromeOptions": options, "goog:loggingPrefs": {"browser": "ALL", "performance": "ALL"}}
         made = self.call("POST", "/session", {"capabilities": {"alwaysMatch": wanted}})
         self.session = f"/session/{made['sessionId']}"
+        self.devtools("Browser.setDownloadBehavior", behavior="allow", downloadPath=folder)
 
     def wait_for_driver(self) -> None:
         last = time.monotonic() + SECONDS
