@@ -110,6 +110,7 @@ _ceptre_script_form() {
     format) options='--help --version --check' words=('.cep') again=1 ;;
     grade) options='--help --version --goal --height --end --typed --seed --turns --json --jobs' words=('.cep' '.log') again=1 ;;
     player) options='--help --version --log --load --from --rows --plain' words=('.cep' 'seed= height= turns=') again=1 ;;
+    publish) options='--help --version --title --output --transcript --site --players --seed --height --turns' words=('.cep') again= ;;
     replay) options='--help --version --seed --turns --typed --words' words=('.cep' '.log') again= ;;
     sample) options='--help --version --runs --seed --players-by-seed --height --turns --goal --csv --jobs' words=('.cep') again= ;;
     server) options='--help --version' words=() again= ;;
@@ -134,6 +135,14 @@ _ceptre_value() {
     player:--load) value='FILE' ;;
     player:--from) value='.log' ;;
     player:--rows) value='-' ;;
+    publish:--title) value='-' ;;
+    publish:--output) value='FILE' ;;
+    publish:--transcript) value='.log' ;;
+    publish:--site) value='FILE' ;;
+    publish:--players) value='-' ;;
+    publish:--seed) value='-' ;;
+    publish:--height) value='-' ;;
+    publish:--turns) value='-' ;;
     replay:--seed) value='-' ;;
     replay:--turns) value='-' ;;
     sample:--runs) value='-' ;;
@@ -146,5 +155,5 @@ _ceptre_value() {
     esac
 }
 
-complete -F _ceptre_script {,./}tools/{explain,follow,format,grade,player,replay,sample,server,why} ceptre-{explain,follow,format,grade,player,replay,sample,server,why}
+complete -F _ceptre_script {,./}tools/{explain,follow,format,grade,player,publish,replay,sample,server,why} ceptre-{explain,follow,format,grade,player,publish,replay,sample,server,why}
 # end of what is made

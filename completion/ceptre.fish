@@ -129,6 +129,22 @@ for place in '-c ceptre-player' '-p */tools/player'
     complete $at -n '__ceptre_arguments -ge 2' -a 'seed= height= turns='
 end
 
+for place in '-c ceptre-publish' '-p */tools/publish'
+    set -l at (string split ' ' -- $place)
+    complete $at -f
+    complete $at -l help -d 'what it does'
+    complete $at -l version -d 'its version'
+    complete $at -x -l title -d 'the title of the page'
+    complete $at -r -F -l output -d 'where the page is written '
+    complete $at -x -l transcript -k -a '(__fish_complete_suffix .log)' -d 'show this transcript of the world'
+    complete $at -r -F -l site -d 'make pages of all worlds of this folder'
+    complete $at -x -l players -d 'how many play in rounds'
+    complete $at -x -l seed -d 'the seed of the first game '
+    complete $at -x -l height -d 'as for ceptre play'
+    complete $at -x -l turns -d 'as for ceptre play'
+    complete $at -n '__ceptre_arguments -eq 1' -k -a '(__fish_complete_suffix .cep)'
+end
+
 for place in '-c ceptre-replay' '-p */tools/replay'
     set -l at (string split ' ' -- $place)
     complete $at -f

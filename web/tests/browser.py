@@ -18,7 +18,7 @@ BROWSER = shutil.which("chromium")
 MISSING = "" if DRIVER and BROWSER else "chromium-driver is not installed"
 
 ELEMENT = "element-6066-11e4-a52e-4f735466cecf"
-WORDS = ("--headless=new", "--no-sandbox", "--disable-gpu", "--disable-dev-shm-usage", "--no-first-run", "--force-device-scale-factor=1")
+WORDS = ("--headless=new", "--no-sandbox", "--disable-gpu", "--disable-dev-shm-usage", "--no-first-run")
 SECONDS = 20
 
 
@@ -74,7 +74,8 @@ class Browser:
     def call(self, method: str, path: str, body: Optional[dict[str, Any]] = None) -> Any:
         """What the driver answers."""
         data = json.dumps(body or {}).encode() if method == "POST" else None
-        request = urllib.request.Request(self.at + self.session + path, data, {"Content-Type": "application/json"}, method=method)
+        request = urllib.request.Request(self.at + self.session + path, data, method=method)
+        request.add_header("Content-Type", "application/json")
         try:
             with urllib.request.urlopen(request, timeout=120) as answer:
                 return json.load(answer)["value"]
@@ -128,7 +129,8 @@ class Browser:
         return self.call("POST", "/goog/cdp/execute", {"cmd": command, "params": words})
 
     def size(self, width: int, height: int) -> None:
-        self.devtools("Emulation.setDeviceMetricsOverride", width=width, height=height, deviceScaleFactor=1, mobile=False)
+        sizes = {"width": width, "height": height, "deviceScaleFactor": 1, "mobile": False}
+        self.devtools("Emulation.setDeviceMetricsOverride", **sizes)
 
     def prefer(self, **features: str) -> None:
         """What the reader prefers, such as prefers_color_scheme="dark"."""

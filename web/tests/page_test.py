@@ -1,4 +1,4 @@
-"""Pages in a headless browser: played to their ends, undone, saved, checked, by mouse and by keyboard, wide and narrow."""
+"""Pages in a headless browser: played to their ends, undone, saved, checked, by mouse and by keyboard."""
 
 from __future__ import annotations
 
@@ -66,6 +66,16 @@ DEEP = (
 )
 
 
+# The state after six steps of a game in the castle.
+STATE_THEN = [
+    "You are in the tower",
+    "The guard is in the winding stairs (gone)",
+    "The guard is in the cellar",
+    "You carry the crown",
+    "The guard is awake",
+]
+
+
 @unittest.skipIf(MISSING, MISSING)
 class Pages(unittest.TestCase):
     browser: Browser
@@ -119,7 +129,8 @@ class Pages(unittest.TestCase):
                 path = os.path.join(self.folder, "given.log")
                 with open(path, "wb") as file:
                     file.write(log)
-                self.assertRegex(setting.native("", "check", os.path.join(setting.WORLDS, name + ".cep"), path), b"^accepted ")
+                world = os.path.join(setting.WORLDS, name + ".cep")
+                self.assertRegex(setting.native("", "check", world, path), b"^accepted ")
                 self.browser.click("#check")
                 self.waited("is accepted")
                 for _ in range(2):
@@ -130,16 +141,19 @@ class Pages(unittest.TestCase):
                 shown = self.browser.value("document.querySelectorAll('#story .step').length")
                 self.assertEqual(shown, len(re.findall(rb"^step ", left, re.MULTILINE)))
 
+    def errors(self) -> list[str]:
+        """What the browser has to say of the page."""
+        return [entry["message"] for entry in self.browser.log("browser")]
+
     def test_no_page_asks_for_anything(self) -> None:
         self.browser.log("performance")
         self.open("castle")
         self.choose("1")
-        asked = re.findall(r'"url":"(?!file:|blob:|data:)([^"]+)"', str([entry["message"] for entry in self.browser.log("performance")]))
-        self.assertEqual([url for url in asked if not url.startswith("about:")], [])
-        self.assertEqual([entry["message"] for entry in self.browser.log("browser")], [])
-        refused = self.browser.call(
-            "POST", "/execute/async", {"script": "fetch('https://localhost/').catch(() => arguments[0]('refused'))", "args": []}
-        )
+        went = str([entry["message"] for entry in self.browser.log("performance")])
+        self.assertEqual(re.findall(r'"url":"(?!file:|blob:|data:|about:)([^"]+)"', went), [])
+        self.assertEqual(self.errors(), [])
+        script = "fetch('https://localhost/').catch(() => arguments[0]('refused'))"
+        refused = self.browser.call("POST", "/execute/async", {"script": script, "args": []})
         self.assertEqual(refused, "refused")
         self.browser.log("browser")
 
@@ -182,8 +196,8 @@ class Pages(unittest.TestCase):
                     self.browser.prefer(prefers_color_scheme=scheme, prefers_reduced_motion="reduce")
                     self.assertLessEqual(self.browser.value("document.documentElement.scrollWidth"), width)
                     self.assertEqual([pair for pair in self.contrasts() if pair[1] < 4.5], [])
-                    small = "[...document.querySelectorAll('button,input,summary')].filter((it) => it.offsetHeight && it.offsetHeight < 17)"
-                    self.assertEqual(self.browser.value(f"{small}.map((it) => it.id)"), [])
+                    high = "[...document.querySelectorAll('button')].map((it) => it.offsetHeight).filter(Boolean)"
+                    self.assertGreaterEqual(min(self.browser.value(high)), 24)
 
     def contrasts(self) -> list[tuple[str, float]]:
         """The contrast of each text that is shown with what is behind it."""
@@ -257,7 +271,8 @@ class Pages(unittest.TestCase):
             "document.body.dispatchEvent(new DragEvent('drop', { dataTransfer: moved, bubbles: true, cancelable: true }))",
             text,
         )
-        self.assertRegex(self.waited("mine.log"), "^mine.log is refused at line [0-9]+: NotContained have 0 need 1 thief hall[.]$")
+        said = "mine.log is refused at line 26: NotContained have 0 need 1 thief hall."
+        self.assertEqual(self.waited("mine.log"), said)
 
     def test_another_seed(self) -> None:
         self.open("nim")
@@ -280,20 +295,21 @@ class Pages(unittest.TestCase):
         self.assertEqual(self.browser.text("#story").split("\n")[0], "Player 2 cannot do that: run: ann")
 
     def test_texts_of_a_world_are_texts(self) -> None:
-        self.browser.open(setting.made(self.folder, "hostile", HOSTILE, "--title", "</title><script>1</script> & \"it\""))
-        title = self.browser.value("document.title")
-        self.assertEqual(title, "</title><script>1</script> & \"it\"")
-        self.assertIn('<!-- <b>bold</b>', self.browser.text("#story"))
+        title = '</title><script>1</script> & "it"'
+        self.browser.open(setting.made(self.folder, "hostile", HOSTILE, "--title", title))
+        self.assertEqual(self.browser.value("document.title"), title)
+        self.assertIn('& &amp; "quoted" <!-- <b>bold</b>', self.browser.text("#story"))
         self.assertEqual(self.browser.text("#offers").split("\n")[-1], "</button><script>x</script> & 'go'")
         self.assertEqual(self.browser.text("#state"), "</li><b><i>here</i></b>")
         self.choose("1")
         self.choose("1")
         self.assertIn("<img src=x onerror=alert(1)> {A}", self.browser.text("#story"))
         self.assertEqual(self.browser.text("#state"), "</li><b>constructor</b>")
-        self.assertEqual(self.browser.value("document.querySelectorAll('main script, main img, main b, main i').length"), 0)
+        made = "document.querySelectorAll('main script, main img, main b, main i').length"
+        self.assertEqual(self.browser.value(made), 0)
         self.assertEqual(self.browser.value("document.title"), title)
         self.assertEqual(self.browser.value("document.getElementById('text').textContent"), HOSTILE)
-        self.assertEqual([entry["message"] for entry in self.browser.log("browser")], [])
+        self.assertEqual(self.errors(), [])
 
     def test_as_many_offers_as_there_may_be(self) -> None:
         self.browser.open(setting.made(self.folder, "many", MANY))
@@ -303,7 +319,8 @@ class Pages(unittest.TestCase):
         self.browser.click("#more")
         self.assertEqual(self.browser.text("#part"), "51 to 100 of 65,536 offers")
         self.browser.type("pick c200 c255", "#words")
-        self.assertEqual(self.browser.text("#offers").split("\n"), ["51456", "Pick: c200, c255", "65481", "Pick: c255, c200"])
+        found = ["51456", "Pick: c200, c255", "65481", "Pick: c255, c200"]
+        self.assertEqual(self.browser.text("#offers").split("\n"), found)
         self.browser.click("#offers button")
         self.browser.idle()
         self.assertEqual(self.browser.value("game.typed"), [51456])
@@ -348,8 +365,7 @@ class Pages(unittest.TestCase):
         self.browser.type("\ue014\ue014")
         self.assertEqual(self.browser.text("#step"), "Step 6 of 11: The guard comes to the cellar.")
         self.assertEqual(self.browser.text("#rests"), "Step 6 rests on steps 4 and 5.")
-        state = "You are in the tower\nThe guard is in the winding stairs (gone)\nThe guard is in the cellar\nYou carry the crown"
-        self.assertEqual(self.browser.text("#state-then"), state + "\nThe guard is awake")
+        self.assertEqual(self.browser.text("#state-then").split("\n"), STATE_THEN)
         self.assertEqual(self.browser.value("document.querySelectorAll('#causes path').length"), 7 - 1)
         self.browser.click("#last")
         self.assertEqual(self.browser.text("#state-then").split("\n")[-1], "You are rich")

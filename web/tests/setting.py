@@ -47,7 +47,8 @@ def changed(path: str, old: str, new: str) -> str:
 
 def native(typed: str, *words: str) -> bytes:
     """What the program writes, called with these words."""
-    return subprocess.run([os.environ["CEPTRE"], *words], input=typed.encode(), stdout=subprocess.PIPE, check=False).stdout
+    command = [os.environ["CEPTRE"], *words]
+    return subprocess.run(command, input=typed.encode(), stdout=subprocess.PIPE, check=False).stdout
 
 
 def read(path: str) -> str:

@@ -12,7 +12,7 @@ from ceptre_tools.explain.refusal import Refusal
 from ceptre_tools.program import MOST_LOG, MOST_WORLD, opened, refusal
 from ceptre_tools.publish.about import title_of, words_beside
 from ceptre_tools.publish.module import module
-from ceptre_tools.publish.page import Run, page, people, prose_of
+from ceptre_tools.publish.page import Run, page, prose_of
 from ceptre_tools.publish.site import Entry, index, worlds_of
 from ceptre_tools.publish.walk import verdict, walk_of
 from ceptre_tools.terminal import USAGE, complain, script

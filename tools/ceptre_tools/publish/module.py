@@ -1,4 +1,4 @@
-"""The program as a module for browsers, `ceptre.wasm`: that of the installation or checkout, made where it is not there."""
+"""The program as a module for browsers, `ceptre.wasm`: the one that is there, or one that is made."""
 
 from __future__ import annotations
 

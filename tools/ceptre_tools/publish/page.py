@@ -48,7 +48,7 @@ def templates(prose: Prose) -> dict[str, Any]:
     def texts(given: Mapping[str, str]) -> dict[str, str]:
         return {name: people(text) for name, text in given.items()}
 
-    rules = {name: [people(told), None if offer is None else people(offer)] for name, (told, offer) in prose.rules.items()}
+    rules = {name: [people(told), offer and people(offer)] for name, (told, offer) in prose.rules.items()}
     named = {"words": prose.words, "stages": prose.stages, "ends": prose.ends}
     return {"rules": rules, **{name: texts(given) for name, given in named.items()}, "start": people(prose.start)}
 
