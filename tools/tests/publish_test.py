@@ -191,7 +191,7 @@ class Transcripts(Setting):
         log = self.write("other.log", read(WORLDS, "castle.log").replace("take R=tower", "take R=hall"))
         words = ["worlds/castle.cep", "--transcript", log, "-o", self.path("page.html")]
         status, output, _ = called("publish", *words)
-        self.assertEqual((status, output.startswith(f"{log}: refused 22 ")), (1, True), output)
+        self.assertEqual((status, output.startswith(f"{log}: refused 26 ")), (1, True), output)
         self.assertFalse(os.path.exists(self.path("page.html")))
 
 
@@ -247,10 +247,12 @@ class Module(Setting):
         self.assertEqual(module.module(), MODULE)
 
     def test_that_of_an_installation(self):
-        self.assertEqual(self.found(), self.write("web/ceptre.wasm", ""))
+        path = self.write("web/ceptre.wasm", "")
+        self.assertEqual(self.found(), path)
 
     def test_that_of_a_checkout(self):
         self.script(".ci/sources", "echo now\n")
+        self.script(".ci/wasm", "exit 3\n")
         path = self.write("out/ceptre.wasm", "")
         self.write("out/ceptre.wasm.sources", "now\n")
         self.assertEqual(self.found(), path)
@@ -259,13 +261,15 @@ class Module(Setting):
         self.script(".ci/sources", "echo now\n")
         self.script(".ci/wasm", 'echo said; mkdir -p "$1" && echo made >"$1/ceptre.wasm"\n')
         self.assertEqual(read(self.found()), "made\n")
-        self.write("out/ceptre.wasm", "old")
+        self.write("out/ceptre.wasm", "kept")
+        self.assertEqual(read(self.found()), "kept")
         self.write("out/ceptre.wasm.sources", "before\n")
         self.assertEqual(read(self.found()), "made\n")
 
     def test_it_cannot_be_made(self):
         with self.assertRaisesRegex(CannotRun, "there is no ceptre.wasm, which a page needs"):
             self.found()
+        self.script(".ci/sources", "echo now\n")
         self.script(".ci/wasm", "exit 3\n")
         with self.assertRaisesRegex(CannotRun, "none can be made"):
             self.found()

@@ -268,7 +268,8 @@ class Pages(unittest.TestCase):
         text = log.replace("step take R=tower", "step take R=hall", 1)
         self.browser.script(
             "const moved = new DataTransfer(); moved.items.add(new File([arguments[0]], 'mine.log'));"
-            "document.body.dispatchEvent(new DragEvent('drop', { dataTransfer: moved, bubbles: true, cancelable: true }))",
+            "const dropped = new DragEvent('drop', { dataTransfer: moved, bubbles: true, cancelable: true });"
+            "document.body.dispatchEvent(dropped)",
             text,
         )
         said = "mine.log is refused at line 26: NotContained have 0 need 1 thief hall."

@@ -11,40 +11,42 @@ NAME = "ceptre.wasm"
 
 
 def sources() -> str:
-    """What the sources of a checkout are, as its own script says it; nothing in an installation."""
+    """What the sources of this checkout are, as its own script says it."""
     script = os.path.join(TOP, ".ci", "sources")
-    if not os.path.exists(script):
-        return ""
     return subprocess.run([script], stdout=subprocess.PIPE, text=True, check=False).stdout.strip()
 
 
 def is_of(path: str, now: str) -> bool:
-    """Whether a module is of these sources, as far as a file beside it says of which it is."""
-    if not os.path.exists(path):
-        return False
+    """Whether a module that was made in this checkout is of its present sources, as a file beside it says."""
     stamp = path + ".sources"
-    if not now or not os.path.exists(stamp):
-        return True
+    if not os.path.exists(path) or not os.path.exists(stamp):
+        return False
     with open(stamp, encoding="utf-8") as file:
         return file.read().strip() == now
 
 
+def make(folder: str) -> bool:
+    """Makes the module in a folder, and notes of which sources it is; answers whether that could be done."""
+    now, words = sources(), [os.path.join(TOP, ".ci", "wasm"), folder]
+    if subprocess.run(words, stdout=subprocess.DEVNULL, check=False).returncode != 0:
+        return False
+    with open(os.path.join(folder, NAME + ".sources"), "w", encoding="utf-8") as file:
+        file.write(now + "\n")
+    return True
+
+
 def path_of_module() -> str:
-    """The path of the module: what CEPTRE_WASM names, or the first that is there."""
-    named = os.environ.get("CEPTRE_WASM")
-    if named:
-        return named
-    now, maker = sources(), os.path.join(TOP, ".ci", "wasm")
-    for folder in ("web", "out"):
-        path = os.path.join(TOP, folder, NAME)
-        if is_of(path, now):
-            return path
-    if not os.path.exists(maker):
-        raise CannotRun(f"there is no {NAME}, which a page needs")
+    """The path of the module: what CEPTRE_WASM names, that of an installation, or that of this checkout."""
     folder = os.path.join(TOP, "out")
-    if subprocess.run([maker, folder], stdout=subprocess.DEVNULL, check=False).returncode != 0:
+    installed, own = os.path.join(TOP, "web", NAME), os.path.join(folder, NAME)
+    for path in (os.environ.get("CEPTRE_WASM"), installed if os.path.exists(installed) else None):
+        if path:
+            return path
+    if not os.path.exists(os.path.join(TOP, ".ci", "wasm")):
+        raise CannotRun(f"there is no {NAME}, which a page needs")
+    if not is_of(own, sources()) and not make(folder):
         raise CannotRun(f"there is no up-to-date {NAME}, and none can be made")
-    return os.path.join(folder, NAME)
+    return own
 
 
 def module() -> bytes:
