@@ -27,7 +27,8 @@ globalThis.asked = JSON.parse(fs.readFileSync(0, "utf8"));
 console.log(JSON.stringify(vm.runInThisContext(`asked.map(({ templates, questions, steps, atoms, log }) => {
   const prose = new Prose(templates);
   return { offers: questions.map((offers) => prose.offers(offers)), told: steps.map((step) => prose.told(step)),
-    atoms: atoms.map((atom) => prose.atom(atom, 1)), many: atoms.map((atom) => prose.atom(atom, 3)), run: readRun(log) };
+    atoms: atoms.map((atom) => prose.atom(atom, 1)), many: atoms.map((atom) => prose.atom(atom, 3)),
+    run: readRun(log) };
 })`)));
 """
 
@@ -119,14 +120,14 @@ def played(text: str) -> str:
 class Scripts(unittest.TestCase):
     @unittest.skipUnless(shutil.which("tsc"), "node-typescript is not installed")
     def test_types(self) -> None:
-        words = ["--allowJs", "--checkJs", "--noEmit", "--strict", "--target", "es2022", "--typeRoots", setting.WEB]
+        words = ["--allowJs", "--checkJs", "--noEmit", "--strict", "--target", "es2022", "--typeRoots", "/nowhere"]
         files = [os.path.join(setting.WEB, name) for name in OWN]
         command = ["tsc", *words, "--lib", "es2022,dom,dom.iterable", *files]
         done = subprocess.run(command, stdout=subprocess.PIPE, text=True, check=False)
         self.assertEqual((done.stdout, done.returncode), ("", 0))
 
     def test_they_are_small(self) -> None:
-        lines = sum(len(setting.read(os.path.join(setting.WEB, name)).split("\n")) - 1 for name in (*OWN, "page.css"))
+        lines = sum(setting.read(os.path.join(setting.WEB, name)).count("\n") for name in (*OWN, "page.css"))
         self.assertLessEqual(lines, 900)
 
     def test_nothing_ends_their_elements(self) -> None:
