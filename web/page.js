@@ -224,7 +224,7 @@ function showStory(run) {
   for (let n = Math.max(same, now.length - SHOWN_LINES); n < now.length; n++) {
     const of = run.told[n], text = of ? textOfTold(of) : prose.ends.get(run.end) || ENDS[run.end] || `The end, by a limit: ${run.end}.`;
     const line = element("p", text, of ? of.kind : "end");
-    line.title = now[n];
+    line.dataset.raw = now[n];
     line.hidden = !text;
     story.append(line);
   }
@@ -237,7 +237,7 @@ function showStory(run) {
 function showState(state, by) {
   $("state").replaceChildren(...state.map(({ copies, atom }) => {
     const text = by.atom(atom, copies), line = element("li", sentence(text));
-    line.title = atom;
+    line.dataset.raw = atom;
     line.hidden = !text;
     return line;
   }));

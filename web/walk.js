@@ -78,7 +78,7 @@ const walk = {
       line.append(element("p", this.text(number)));
       if (of && of.stage && prose.stages.get(of.stage)) line.append(element("p", prose.stages.get(of.stage) || "", "stage"));
       if (number === last) line.append(element("p", prose.ends.get(this.log.end) || ENDS[this.log.end] || "", "end"));
-      if (of) line.title = of.offer;
+      if (of) line.dataset.raw = of.offer;
       lines.push(line);
     }
     lines[lines.length - 1].setAttribute("aria-current", "step");
@@ -119,7 +119,7 @@ const walk = {
     const letters = Math.floor(($("causes").clientWidth - GUTTER) / 8);
     for (const [number, y] of row) {
       const link = drawn("a", { tabindex: 0, role: "button" }), label = drawn("text", { x: GUTTER + 12, y: y + 5 });
-      const whole = drawn("title", {}), text = `${number}  ${this.text(number)}`;
+      const whole = drawn("title", {}), text = `${number} ${this.text(number)}`;
       whole.textContent = text;
       label.textContent = text.length > letters ? `${text.slice(0, letters - 2)}..` : text;
       link.append(whole, drawn("circle", { cx: GUTTER, cy: y, r: number === this.at ? 6 : 4 }), label);

@@ -184,8 +184,14 @@ class Transcripts(Setting):
         walk = self.walk("worlds/dungeon.cep", "worlds/dungeon.log", "--seed", "1")
         self.assertEqual(walk["again"], 19)
         walk = self.walk("worlds/manor.cep", "worlds/manor.log", "--seed", "1")
-        self.assertEqual(walk["again"], -1)
-        self.assertIn("Another --seed may be the one", walk["why"])
+        self.assertEqual((walk["typed"], walk["again"]), ([], 0))
+        self.assertRegex(walk["why"], "^Nobody can go on from step 1 or a later one: .*by this seed the run does")
+        walk = self.walk("worlds/nim.cep", "worlds/nim.log", "--seed", "3")
+        self.assertEqual((walk["again"], walk["typed"]), (2, [2]))
+
+    def test_one_of_rounds_is_gone_on_with_by_one_player(self):
+        walk = self.walk("worlds/race.cep", "worlds/race.log")
+        self.assertEqual((walk["again"], walk["why"]), (len(walk["steps"]), ""))
 
     def test_a_transcript_that_is_refused(self):
         log = self.write("other.log", read(WORLDS, "castle.log").replace("take R=tower", "take R=hall"))

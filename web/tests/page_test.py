@@ -180,6 +180,7 @@ class Pages(unittest.TestCase):
         for offer in ("1 Slip into the garden", "2 Slip into the winding stairs", "3 Slip into the cellar"):
             self.assertIn(offer, buttons)
         self.assertNotIn("", buttons)
+        self.assertEqual([name for role, name in tree if role in ("listitem", "paragraph") and name], [])
         self.assertIn(("log", "The story so far"), tree)
         self.assertIn(("heading", "Choose (3 ways)"), tree)
         self.assertIn(("region", "What there is now"), tree)
@@ -368,6 +369,9 @@ class Pages(unittest.TestCase):
         self.assertEqual(self.browser.text("#rests"), "Step 6 rests on steps 4 and 5.")
         self.assertEqual(self.browser.text("#state-then").split("\n"), STATE_THEN)
         self.assertEqual(self.browser.value("document.querySelectorAll('#causes path').length"), 7 - 1)
+        self.assertIn(("button", "6 The guard comes to the cellar."), self.browser.tree())
+        self.browser.size(320, 900)
+        self.assertLessEqual(self.browser.value("document.documentElement.scrollWidth"), 320)
         self.browser.click("#last")
         self.assertEqual(self.browser.text("#state-then").split("\n")[-1], "You are rich")
         self.browser.click("#back")
@@ -378,19 +382,25 @@ class Pages(unittest.TestCase):
         log = self.download("castle").decode()
         self.assertEqual(log, setting.read(world + ".log"))
 
-    def test_a_site(self) -> None:
-        folder = os.path.join(self.folder, "few")
-        os.mkdir(folder)
-        for name in ("nim.cep", "nim.in", "race.cep", "race.words", "times.cep"):
-            os.symlink(os.path.join(setting.WORLDS, name), os.path.join(folder, name))
-        setting.publish(self.folder, "--site", folder, "--title", "Few")
+    def test_the_site_of_all_worlds(self) -> None:
+        setting.publish(self.folder, "--site", setting.WORLDS, "--title", "All")
         self.browser.call("POST", "/url", {"url": f"file://{self.folder}/site/index.html"})
-        self.assertIn("for one, 3 choices when it was played once", self.browser.text("main"))
-        self.assertIn("for 3 at one screen", self.browser.text("main"))
-        self.assertIn("runs by itself", self.browser.text("main"))
-        self.browser.click("a[href='race.html']")
-        self.browser.wait("document.body.dataset.ready === 'yes'")
-        self.assertEqual(self.browser.text("#come"), "It is the turn of player 1")
+        for said in ("for one, 3 choices when it was played once", "for 3 at one screen", "runs by itself"):
+            self.assertIn(said, self.browser.text("main"))
+        self.browser.size(320, 900)
+        self.assertLessEqual(self.browser.value("document.documentElement.scrollWidth"), 320)
+        pages = self.browser.value("[...document.links].map((link) => decodeURI(link.pathname))")
+        names = [name[:-4] for name in sorted(os.listdir(setting.WORLDS)) if name.endswith(".cep")]
+        self.assertEqual([os.path.basename(page) for page in pages], [name + ".html" for name in names])
+        for name, page in zip(names, pages):
+            with self.subTest(name):
+                self.browser.open(page)
+                words = setting.words_of(name)
+                command = "rounds" if any("players=" in word for word in words) else "play"
+                log = setting.native("", command, os.path.join(setting.WORLDS, name + ".cep"), *words).decode()
+                self.assertEqual(self.browser.value("textOf(game.transcript)"), log)
+                self.assertLessEqual(self.browser.value("document.documentElement.scrollWidth"), 320)
+        self.assertEqual(self.errors(), [])
 
 
 if __name__ == "__main__":

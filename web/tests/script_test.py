@@ -133,7 +133,8 @@ class Scripts(unittest.TestCase):
 
     def test_nothing_ends_their_elements(self) -> None:
         for name in (*OWN, "page.css", "loader.js"):
-            self.assertEqual(re.findall("</script|<!--|</style", setting.read(os.path.join(setting.WEB, name))), [], name)
+            text = setting.read(os.path.join(setting.WEB, name))
+            self.assertEqual(re.findall("</script|<!--|</style", text), [], name)
 
 
 if __name__ == "__main__":

@@ -61,3 +61,9 @@ def read(path: str) -> str:
 def choices_of(world: str) -> list[str]:
     """What was typed when a world was played once."""
     return read(os.path.join(WORLDS, world + ".in")).split()
+
+
+def words_of(world: str) -> list[str]:
+    """The options with which a world was played once."""
+    path = os.path.join(WORLDS, world + ".words")
+    return read(path).split() if os.path.exists(path) else []

@@ -3,6 +3,7 @@
 from __future__ import annotations
 
 import base64
+import functools
 import gzip
 import hashlib
 import html
@@ -83,6 +84,12 @@ class Run(NamedTuple):
         return [f"{name}={value}" for name, value in given.items() if value is not None]
 
 
+@functools.lru_cache(maxsize=1)
+def packed(module: bytes) -> str:
+    """The module as text of an element."""
+    return base64.b64encode(gzip.compress(module, 9, mtime=0)).decode()
+
+
 def page(path: str, text: str, title: str, run: Run, module: bytes, walk: Optional[dict[str, Any]] = None) -> str:
     """The page of a world with this path and this text, or of a transcript of it."""
     name, world = os.path.basename(path), text.encode("latin-1")
@@ -106,7 +113,7 @@ def page(path: str, text: str, title: str, run: Run, module: bytes, walk: Option
         "SCRIPT": script,
         "LOADER": part("loader.js"),
         "WALK": part("walk.html") if walk else "",
-        "WASM": base64.b64encode(gzip.compress(module, 9, mtime=0)).decode(),
+        "WASM": packed(module),
         "WORLD": base64.b64encode(world).decode(),
         "SETTINGS": as_data(settings),
     }
