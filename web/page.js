@@ -1,5 +1,4 @@
 // A world as a page: each choice plays all choices again in a worker, and what the program wrote is shown.
-"use strict";
 
 /** @typedef {{ name: string, file: string, sum: string, players: number, seed: string, options: string[],
  *   prose: Templates, walk: Walk | null }} Settings */
@@ -26,9 +25,7 @@ const HEAD = /^saved game of (.*), world ([0-9a-f]{16}), seed ([0-9]+)$/;
 /** @type {Record<string, string>} */
 const ENDS = { quiet: "The end: nothing more can happen.", turns: "The end: all turns are over." };
 
-/** An element with a text.
-
- * @param {string} name @param {string} text @param {string} kind */
+/** @param {string} name @param {string} text @param {string} kind */
 function element(name, text, kind = "") {
   const made = document.createElement(name);
   made.textContent = text;
@@ -197,7 +194,6 @@ function show(run) {
 }
 
 /** What is told of a line of the run, which may be nothing.
-
  * @param {Told} told */
 function textOfTold({ kind, text }) {
   if (kind === "step") return sentence(prose.told(text));
@@ -247,7 +243,6 @@ function showState(state, by) {
 function showRaw() { $("raw").textContent = textOf(game.transcript); }
 
 /** The words of a text by which offers are found.
-
  * @param {string} text */
 const searched = (text) => text.toLowerCase().split(/[^0-9a-z\u0080-\uffff']+/).filter(Boolean);
 
@@ -324,7 +319,6 @@ function load(text) {
 }
 
 /** Says what the program's checker says of a transcript.
-
  * @param {string} name @param {Uint8Array} log */
 async function check(name, log) {
   if (game.busy) return;
@@ -336,9 +330,7 @@ async function check(name, log) {
   else say(`${name} is refused at line ${count}: ${cause.join(" ")}.`);
 }
 
-/** Loads a saved game, or checks a transcript.
-
- * @param {File} file */
+/** @param {File} file */
 async function take(file) {
   const bytes = new Uint8Array(await file.arrayBuffer());
   if (HEAD.test(textOf(bytes.slice(0, 1000)).split(/\r?\n/)[0])) load(textOf(bytes));
@@ -346,7 +338,6 @@ async function take(file) {
 }
 
 /** Uses the browser's own store, which some browsers refuse to a file.
-
  * @param {() => void} work */
 function stored(work) {
   try { work(); } catch { say("This browser keeps nothing for this page: save as a file instead."); }
@@ -388,8 +379,7 @@ const keys = {
     keys.focus = true;
     choose(number);
   },
-  /** Moves the focus among the offers.
-   * @param {number} by */
+  /** @param {number} by */
   move(by) {
     const buttons = [...$("offers").querySelectorAll("button")], at = buttons.indexOf(document.activeElement);
     const to = at < 0 ? (by > 0 ? 0 : buttons.length - 1) : at + by;

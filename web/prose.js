@@ -28,8 +28,7 @@ function wordsOf(text) {
   return [...words, text.slice(start)];
 }
 
-/** A term or an atom.
- * @param {string} text @returns {Term} */
+/** @param {string} text @returns {Term} */
 function termOf(text) {
   /** @type {Term[]} */
   const around = [];
@@ -46,8 +45,7 @@ function termOf(text) {
   return term;
 }
 
-/** The values of an offer's variables.
- * @param {string[]} words @returns {[string, Term][]} */
+/** @param {string[]} words @returns {[string, Term][]} */
 const valuesOf = (words) => words.map((word) => {
   const at = word.indexOf("=");
   return [word.slice(0, at), termOf(word.slice(at + 1))];
@@ -104,13 +102,10 @@ class Prose {
   }
 
   /** What the step says that an offer stands for.
-
    * @param {string} offer */
   told(offer) { return this.ofOffer(offer, (this.rules.get(offer.split(" ")[0]) || [null])[0]); }
 
-  /** How an offer reads.
-
-   * @param {string} offer */
+  /** @param {string} offer */
   offered(offer) { return this.ofOffer(offer, (this.rules.get(offer.split(" ")[0]) || ["", null])[1] || null); }
 
   /** How offers read, with the difference in brackets between those that would read the same.
@@ -136,9 +131,7 @@ class Prose {
     }
   }
 
-  /** An atom of a state.
-
-   * @param {string} text @param {number} copies */
+  /** @param {string} text @param {number} copies */
   atom(text, copies) {
     const phrase = this.phrase(termOf(text)), said = this.words.has(text.split(" ")[0]) ? sentence(phrase) : phrase;
     return copies === 1 ? said : `${said} (x${copies})`;

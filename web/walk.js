@@ -1,5 +1,4 @@
 // A transcript as a story to be walked through: its steps, the state after each, and on which earlier steps it rests.
-"use strict";
 
 /** @typedef {{ offer: string, stage: string, changes: [number, number][], after: number[], leaves: boolean }} WalkedStep */
 /** @typedef {{ atoms: string[], start: [number, number][], steps: WalkedStep[], end: string, typed: number[],
@@ -7,9 +6,7 @@
 
 const ROW = 28, GUTTER = 64, ROWS = 30, LINES = 200;
 
-/** An element of a picture.
-
- * @param {string} name @param {Record<string, string | number>} given */
+/** @param {string} name @param {Record<string, string | number>} given */
 function drawn(name, given) {
   const made = document.createElementNS("http://www.w3.org/2000/svg", name);
   for (const [key, value] of Object.entries(given)) made.setAttribute(key, String(value));
@@ -43,7 +40,6 @@ const walk = {
   },
 
   /** Goes to the state after a step; 0 is the start.
-
    * @param {number} to */
   go(to) {
     const { steps } = this.log;
