@@ -20,7 +20,7 @@ const counted = (count, what) => `${count.toLocaleString("en")} ${what}${count =
 const settings = JSON.parse(contentOf("settings"));
 const world = bytesOf(contentOf("world"));
 const prose = new Prose(settings.prose, ": ");
-const STOP_AFTER = 2000, SHOWN_OFFERS = 50, SHOWN_LINES = 500, WAIT_FOR_DIGITS = 1500;
+const STOP_AFTER = 2000, SHOWN_OFFERS = 50, SHOWN_LINES = 500, SHOWN_ATOMS = 1000, WAIT_FOR_DIGITS = 1500;
 const HEAD = /^saved game of (.*), world ([0-9a-f]{16}), seed ([0-9]+)$/;
 /** @type {Record<string, string>} */
 const ENDS = { quiet: "The end: nothing more can happen.", turns: "The end: all turns are over." };
@@ -215,7 +215,7 @@ function showStory(run) {
   for (let more = told.length - same; more > 0 && story.lastElementChild; more--) story.lastElementChild.remove();
   if (!story.childElementCount) {
     same = Math.max(0, now.length - SHOWN_LINES);
-    if (!same && prose.start) story.append(element("p", prose.start, "begin"));
+    if (!same) story.append(element("p", prose.start || "It begins.", "begin"));
   }
   for (let n = Math.max(same, now.length - SHOWN_LINES); n < now.length; n++) {
     const of = run.told[n], text = of ? textOfTold(of) : prose.ends.get(run.end) || ENDS[run.end] || `The end, by a limit: ${run.end}.`;
@@ -231,13 +231,15 @@ function showStory(run) {
 
 /** @param {{ copies: number, atom: string }[]} state @param {Prose} by */
 function showState(state, by) {
-  $("state").replaceChildren(...state.map(({ copies, atom }) => {
+  $("state").replaceChildren(...state.slice(0, SHOWN_ATOMS).map(({ copies, atom }) => {
     const text = by.atom(atom, copies), line = element("li", sentence(text));
     line.dataset.raw = atom;
     line.hidden = !text;
     return line;
   }));
-  $("nothing").hidden = state.length > 0;
+  const more = state.length - SHOWN_ATOMS;
+  $("nothing").textContent = more > 0 ? `And ${more} more, which the transcript has.` : "Nothing.";
+  $("nothing").hidden = state.length > 0 && more <= 0;
 }
 
 function showRaw() { $("raw").textContent = textOf(game.transcript); }

@@ -4,7 +4,7 @@
 /** @typedef {{ atoms: string[], start: [number, number][], steps: WalkedStep[], end: string, typed: number[],
  *   again: number, why: string }} Walk */
 
-const ROW = 28, GUTTER = 64, ROWS = 30, LINES = 200;
+const ROW = 28, GUTTER = 48, ROWS = 30, LINES = 200;
 
 /** @param {string} name @param {Record<string, string | number>} given */
 function drawn(name, given) {

@@ -154,6 +154,15 @@ class OneWorld(Setting):
         self.assertTrue(os.path.exists(self.path("nim.html")))
 
 
+    def test_what_is_no_page_is_not_overwritten(self):
+        world = self.write("mine.cep", read(WORLDS, "nim.cep"))
+        status, _, errors = called("publish", world, "-o", world)
+        self.assertEqual((status, errors), (3, f"publish: {world}: it is no page, and is kept\n"))
+        self.assertEqual(read(world), read(WORLDS, "nim.cep"))
+        self.page(world)
+        self.page(world)
+
+
 class Transcripts(Setting):
     def walk(self, world, log, *words):
         return self.settings(self.page(world, "--transcript", log, *words))["walk"]
@@ -228,7 +237,14 @@ class Sites(Setting):
         status, output, _ = self.site()
         self.assertEqual((status, sorted(os.listdir(self.path("site")))), (1, ["good.html", "index.html"]))
         self.assertIn("refused.cep:2:", output)
+        self.assertNotIn("refused", read(self.path("site", "index.html")))
         self.assertIn("height=512: a page has derivations of at most 128 levels", output)
+
+
+    def test_a_world_with_the_name_of_the_list(self):
+        self.write("worlds/index.cep", read(WORLDS, "nim.cep"))
+        self.assertEqual(self.site()[0], 0)
+        self.assertIn('href="index-world.html"', read(self.path("site", "index.html")))
 
 
 class About(unittest.TestCase):

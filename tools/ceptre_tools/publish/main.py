@@ -9,7 +9,7 @@ from typing import Any, Optional
 
 from ceptre_tools.explain import report
 from ceptre_tools.explain.refusal import Refusal
-from ceptre_tools.program import MOST_LOG, MOST_WORLD, opened, refusal
+from ceptre_tools.program import MOST_LOG, MOST_WORLD, CannotRun, opened, refusal
 from ceptre_tools.publish.about import title_of, words_beside
 from ceptre_tools.publish.module import module
 from ceptre_tools.publish.page import Run, page, prose_of
@@ -72,6 +72,12 @@ def walked(words: Namespace, text: str, world: str, run: Run) -> tuple[dict[str,
     return data, run
 
 
+def name_of_page(path: str) -> str:
+    """The name of a world's page, which is never that of a list."""
+    name = os.path.splitext(os.path.basename(path))[0]
+    return "index-world.html" if name == "index" else name + ".html"
+
+
 def page_of(words: Namespace, path: str, code: bytes) -> tuple[str, Entry]:
     """The page of a world, and its entry in a list."""
     with opened(path, MOST_WORLD) as (text, readable):
@@ -81,11 +87,19 @@ def page_of(words: Namespace, path: str, code: bytes) -> tuple[str, Entry]:
         if words.transcript:
             walk, run = walked(words, text, readable, run)
         title = words.title if words.title and not words.site else title_of(path)
-        name = os.path.splitext(os.path.basename(path))[0] + ".html"
-        return page(path, text, title, run, code, walk), Entry.of(name, title, path, text)
+        return page(path, text, title, run, code, walk), Entry.of(name_of_page(path), title, path, text)
+
+
+def is_page(path: str) -> bool:
+    """Whether a file is empty or a page, so that another may take its place."""
+    with open(path, "rb") as file:
+        return file.read(15) in (b"", b"<!DOCTYPE html>")
 
 
 def write(path: str, text: str) -> None:
+    """Writes a page, and prints where it is."""
+    if os.path.isfile(path) and not is_page(path):
+        raise CannotRun(f"{printable(path)}: it is no page, and is kept")
     with open(path, "w", encoding="utf-8", newline="\n") as file:
         file.write(text)
     print(printable(path))
