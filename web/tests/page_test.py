@@ -8,7 +8,10 @@ import tempfile
 import unittest
 
 import setting
-from browser import MISSING, Browser
+from browser import MISSING as NO_DRIVER
+from browser import Browser
+
+MISSING = NO_DRIVER or setting.MISSING
 
 # The worlds that are clicked to their ends, and the words of `publish` and of the program for them.
 PLAYED: dict[str, tuple[list[str], list[str]]] = {

@@ -13,8 +13,8 @@ sys.path.insert(0, os.path.join(TOP, "tools"))
 
 # The gate tests what it has built.
 os.environ.setdefault("CEPTRE", os.path.join(TOP, "crates", "ceptre", "out", "ceptre"))
-if os.path.exists(os.path.join(TOP, "out", "ceptre.wasm")):
-    os.environ.setdefault("CEPTRE_WASM", os.path.join(TOP, "out", "ceptre.wasm"))
+os.environ.setdefault("CEPTRE_WASM", os.path.join(TOP, "out", "ceptre.wasm"))
+MISSING = "" if os.path.exists(os.environ["CEPTRE_WASM"]) else "ceptre.wasm is not made"
 
 
 def publish(folder: str, *words: str) -> str:
