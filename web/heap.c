@@ -84,11 +84,8 @@ static void release(u32 block) {
 static void cut(u32 block, u32 size) {
     u32 had = size_of(block);
     if (had - size < LEAST) return;
-    u32 was_last = block + had == top;
-    head(block)->size = size;
-    *head(block + size) = (struct head){size, had - size};
-    if (was_last) top_before = had - size;
-    else head(block + had)->before = had - size;
+    set_size(block, size, 0);
+    set_size(block + size, had - size, 0);
     release(block + size);
 }
 
@@ -107,11 +104,9 @@ static u32 block_size(u64 bytes) { return bytes > MOST ? 0 : bytes <= 8 ? LEAST 
 static u32 found(u32 size) {
     u32 list = list_of(size);
     if (size >= EXACT * 8) { /* blocks of this list may be smaller */
-        u32 block = lists[list];
-        for (u32 tries = 8; block && tries; tries--, block = links(block)->next)
-            if (size_of(block) >= size) break;
-        if (block && size_of(block) >= size) return take_from_list(block), block;
-        list++;
+        u32 tries = 8;
+        for (u32 block = lists[list++]; block && tries--; block = links(block)->next)
+            if (size_of(block) >= size) return take_from_list(block), block;
     }
     for (u32 word = list / 64; word < sizeof filled / sizeof *filled; word++) {
         u64 some = word == list / 64 ? filled[word] & ~0ull << list % 64 : filled[word];
@@ -144,10 +139,8 @@ static void heap_give(u32 address) { release(address - HEAD); }
 static int grows_in_place(u32 block, u32 size) {
     u32 had = size_of(block), next = block + had;
     if (next == top) {
-        if (!reach(block + size)) return 0;
-        top = block + size;
-        set_size(block, size, 0);
-        return 1;
+        if (reach(block + size)) top = block + size, set_size(block, size, 0);
+        return next != top;
     }
     if (!(head(next)->size & FREE) || had + size_of(next) < size) return 0;
     take_from_list(next);
@@ -170,8 +163,4 @@ static u32 heap_resize(u32 address, u64 bytes) {
 }
 
 /* The heap begins at this address, a multiple of 8, and has the memory up to that one. */
-static void heap_begin(u32 start, u32 end) {
-    top = start;
-    top_before = 0;
-    heap_end = end;
-}
+static void heap_begin(u32 start, u32 end) { top = start, heap_end = end; }

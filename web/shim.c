@@ -21,9 +21,7 @@ static u32 take(u64 bytes) {
 }
 struct answer rattle_alloc(u64 bytes, u64 align) { return answer(align > 8 ? 0 : take(bytes)); }
 struct answer rattle_realloc(void *it, u64 old, u64 bytes, u64 align) { return answer(align > 8 ? 0 : heap_resize((u32)it, bytes)); }
-void rattle_dealloc(void *it) {
-    if (it) heap_give((u32)it);
-}
+void rattle_dealloc(void *it) { if (it) heap_give((u32)it); }
 
 /* Words and files, in the order in which they came. */
 struct text { const u8 *from; u32 length; };
@@ -60,21 +58,18 @@ void rattle_set_errno(int number) { error = number; }
 i64 __sysv_signal(int number, i64 what) { return 0; }
 
 /* Streams: 0 is what is typed, 1 and 2 are what is said, from 3 on files are open. */
-enum { ENOENT = 2, EBADF = 9, EACCES = 13, EINVAL = 22, EMFILE = 24, ESPIPE = 29 };
-enum { STREAMS = 16, GATHERED = 65536 };
+enum { ENOENT = 2, EBADF = 9, EACCES = 13, EINVAL = 22, EMFILE = 24, ESPIPE = 29, STREAMS = 16, GATHERED = 65536 };
 static struct { struct file *file; u32 at; } streams[STREAMS];
 static u8 gathered[3][GATHERED];
 static u32 waiting[3];
+static int broken; /* the error of the first write that was not taken */
 static int fails(int number) { return error = number, -1; }
 static struct file *file_of(int stream) { return stream > 2 && stream < STREAMS ? streams[stream].file : 0; }
 
-/* Hands on what was gathered. */
-static int hand_on(int stream) {
-    u32 length = waiting[stream];
+static void hand_on(int stream) {
+    if (waiting[stream] && !broken) broken = said(stream, gathered[stream], waiting[stream]);
     waiting[stream] = 0;
-    return length ? said(stream, gathered[stream], length) : 0;
 }
-
 static int is(const u8 *path, struct text name) {
     u32 i = 0;
     while (i < name.length && path[i] && path[i] == name.from[i]) i++;
@@ -120,9 +115,9 @@ i64 read(int stream, u8 *to, u64 most) {
     return left;
 }
 i64 write(int stream, const u8 *from, u64 length) {
-    int number;
     if (stream != 1 && stream != 2) return fails(EBADF);
-    if (waiting[stream] == GATHERED && (number = hand_on(stream))) return fails(number);
+    if (waiting[stream] == GATHERED) hand_on(stream);
+    if (broken) return fails(broken);
     u32 part = GATHERED - waiting[stream];
     if (part > length) part = (u32)length;
     __builtin_memcpy(gathered[stream] + waiting[stream], from, part);
@@ -132,8 +127,10 @@ i64 write(int stream, const u8 *from, u64 length) {
 
 /* The program's status; 6, as where a console fails, if what it wrote last is not taken. */
 int EXPORT(run)(void) {
-    int status = main(), failed = hand_on(1);
-    return hand_on(2) || failed ? 6 : status;
+    int status = main();
+    hand_on(1);
+    hand_on(2);
+    return broken ? 6 : status;
 }
 
 /* A product of 128 bits, which the back end calls. */
