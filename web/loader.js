@@ -13,44 +13,34 @@
  *   file: (name: number, length: number, from: number, bytes: number) => number, run: () => number }} Program
  */
 (function () {
-  // What a write answers that is refused: an error of input or output.
-  const FAILED = 5;
+  const FAILED = 5; // what a write answers that is refused: an error of input or output
 
   /** @param {Uint8Array[]} parts */
   function joined(parts) {
     const whole = new Uint8Array(parts.reduce((length, part) => length + part.length, 0));
-    let at = 0;
-    for (const part of parts) {
-      whole.set(part, at);
-      at += part.length;
-    }
+    parts.reduce((at, part) => (whole.set(part, at), at + part.length), 0);
     return whole;
   }
 
-  /**
-   * @param {Program} program
-   * @param {Request} request
-   */
+  /** @param {Program} program @param {Request} request */
   function fill(program, request) {
     const encoder = new TextEncoder();
+    /** @param {number} made */
+    const there = (made) => {
+      if (!made) throw new RangeError("no memory for the program's words and files");
+      return made >>> 0;
+    };
     /** @param {Uint8Array} bytes @returns {[number, number]} */
     const put = (bytes) => {
-      const at = program.room(bytes.length) >>> 0;
-      if (!at) throw new RangeError("no memory for the program's words and files");
+      const at = there(program.room(bytes.length));
       new Uint8Array(program.memory.buffer, at, bytes.length).set(bytes);
       return [at, bytes.length];
     };
-    for (const word of ["ceptre", ...request.words]) program.word(...put(encoder.encode(word)));
-    for (const [name, bytes] of Object.entries(request.files)) program.file(...put(encoder.encode(name)), ...put(bytes));
+    for (const word of ["ceptre", ...request.words]) there(program.word(...put(encoder.encode(word))));
+    for (const [name, bytes] of Object.entries(request.files)) there(program.file(...put(encoder.encode(name)), ...put(bytes)));
   }
 
-  /**
-   * Throws where the program traps or the stack is too small for it.
-   *
-   * @param {WebAssembly.Module} compiled
-   * @param {Request} request
-   * @returns {Answer}
-   */
+  /** Throws where the program traps, or the stack is too small. @param {WebAssembly.Module} compiled @param {Request} request @returns {Answer} */
   function run(compiled, request) {
     /** @type {Uint8Array[][]} */
     const parts = [[], [], []];
@@ -81,7 +71,6 @@
     return { status, said: joined(parts[1]), told: joined(parts[2]), files: request.files };
   }
 
-  const loader = { run };
-  /** @type {any} */ (globalThis).ceptre = loader;
-  if (typeof module !== "undefined" && module.exports) module.exports = loader;
+  /** @type {any} */ (globalThis).ceptre = { run };
+  if (typeof module !== "undefined" && module.exports) module.exports = { run };
 })();

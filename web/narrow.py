@@ -45,7 +45,8 @@ SLOT = re.compile(rf"  {NAME} = alloca ptr, align 8\n")
 
 # The kinds of lines that stay: where the width of a pointer plays no part.
 STAYS = re.compile(
-    "|".join(
+    "(?:%s)\\n"
+    % "|".join(
         [
             rf"  {NAME} = (?:add|sub|mul|udiv|urem|sdiv|srem|and|or|xor|shl|lshr|ashr)(?: nuw| nsw| exact)* {SCALAR} .*",
             rf"  {NAME} = (?:zext|sext|trunc|bitcast) {SCALAR} .* to {SCALAR}",
@@ -115,7 +116,9 @@ def outside(line: str) -> str:
 
 def of_function(line: str, number: int) -> Iterator[str]:
     """The lines that one inside of a function becomes. The number makes their names unlike all others."""
-    if SLOT.fullmatch(line):
+    if STAYS.fullmatch(line) and holds_nothing_else(line):
+        yield line
+    elif SLOT.fullmatch(line):
         yield line.replace(" = alloca ptr", " = alloca i64")
     elif ADDRESS.fullmatch(line):
         yield line.replace(" = ptrtoaddr ", " = ptrtoint ")
@@ -124,15 +127,20 @@ def of_function(line: str, number: int) -> Iterator[str]:
         yield f"  %over{number} = getelementptr i8, ptr {found[1]}, i64 4\n  store i32 0, ptr %over{number}, align 4\n"
     elif found := MOVED.fullmatch(line):
         yield from moved(*found.groups(), number)
-    elif (found := PAIR.fullmatch(line)) and "ptr" in found.group(2, 3):
-        yield from loaded(*found.groups(), number)
+    elif found := PAIR.fullmatch(line):
+        yield from loaded(*found.groups(), number) if "ptr" in found.group(2, 3) else [line]
     else:
-        yield same(line, bool(found or STAYS.fullmatch(line.rstrip("\n"))))
+        raise Unknown(line)
+
+
+def holds_nothing_else(line: str) -> bool:
+    """Whether a line holds nothing that no line may hold. What stands in quotation marks is a name."""
+    return not NOWHERE.search(line) or not NOWHERE.search(TEXT.sub("", line))
 
 
 def same(line: str, known: bool) -> str:
-    """The line itself, if it is of a known kind and holds nothing that no line may hold."""
-    if not known or NOWHERE.search(TEXT.sub("", line)):
+    """The line itself, if it is of a known kind."""
+    if not known or not holds_nothing_else(line):
         raise Unknown(line)
     return line
 

@@ -30,16 +30,12 @@ static struct file *files, *words;
 u8 *EXPORT(room)(u32 bytes) { return AT(take(bytes)); }
 static int add(struct file **list, struct file it) {
     struct file *made = (struct file *)AT(take(sizeof it));
-    if (!made) return 0;
     while (*list) list = &(*list)->next;
-    *made = it;
-    *list = made;
-    return 1;
+    if (made) *made = it, *list = made;
+    return made != 0;
 }
 int EXPORT(word)(const u8 *from, u32 length) { return add(&words, (struct file){{from, length}, {0, 0}, 0}); }
-int EXPORT(file)(const u8 *name, u32 name_length, const u8 *from, u32 length) {
-    return add(&files, (struct file){{name, name_length}, {from, length}, 0});
-}
+int EXPORT(file)(const u8 *name, u32 size, const u8 *from, u32 length) { return add(&files, (struct file){{name, size}, {from, length}, 0}); }
 
 i64 rattle_arg(u64 n, u8 *to, u64 most) {
     struct file *it = words;
@@ -52,7 +48,7 @@ i64 rattle_arg(u64 n, u8 *to, u64 most) {
 i64 rattle_env(const u8 *name, u8 *to, u64 most) { return -1; }
 i64 rattle_env_at(u64 n, u8 *to, u64 most) { return -1; }
 
-static int error;
+static int error, broken; /* broken is the error of the first write that was not taken */
 int rattle_errno(void) { return error; }
 void rattle_set_errno(int number) { error = number; }
 i64 __sysv_signal(int number, i64 what) { return 0; }
@@ -62,7 +58,6 @@ enum { ENOENT = 2, EBADF = 9, EACCES = 13, EINVAL = 22, EMFILE = 24, ESPIPE = 29
 static struct { struct file *file; u32 at; } streams[STREAMS];
 static u8 gathered[3][GATHERED];
 static u32 waiting[3];
-static int broken; /* the error of the first write that was not taken */
 static int fails(int number) { return error = number, -1; }
 static struct file *file_of(int stream) { return stream > 2 && stream < STREAMS ? streams[stream].file : 0; }
 
@@ -83,8 +78,7 @@ int open(const u8 *path, int flags, ...) {
     if (!it) return fails(ENOENT);
     while (stream < STREAMS && streams[stream].file) stream++;
     if (stream == STREAMS) return fails(EMFILE);
-    streams[stream].file = it;
-    streams[stream].at = 0;
+    streams[stream].file = it, streams[stream].at = 0;
     return stream;
 }
 int close(int stream) {
@@ -102,11 +96,7 @@ i64 lseek(int stream, i64 by, int whence) {
 i64 read(int stream, u8 *to, u64 most) {
     struct file *it = file_of(stream);
     if (most > 0x7fffffff) most = 0x7fffffff;
-    if (stream == 0) {
-        hand_on(1);
-        hand_on(2);
-        return asked(to, (u32)most);
-    }
+    if (stream == 0) return hand_on(1), hand_on(2), asked(to, (u32)most);
     if (!it) return fails(EBADF);
     u32 at = streams[stream].at, left = at < it->content.length ? it->content.length - at : 0;
     if (left > most) left = (u32)most;
