@@ -222,8 +222,8 @@ class Trial(Player):
         self.assertIn("No offer has these words", self.play("no\n", world=world))
         alone = self.path("alone.cep", WORDS.replace("here box, ", ""))
         self.assertIn("No offer has these words", self.play("letter\n", world=alone))
-        self.assertNotIn("> \n", self.play("op\n", world=world))
-        self.assertIn("(1 of 5 offers;", self.play("op\n", world=world))
+        narrowed = "   5  Open the well-known box\n(1 of 5 offers; `all` shows the others)\n"
+        self.assertEqual(self.play("op\n", world=world).split("> ")[1:], [narrowed, "\n"])
 
     def test_an_empty_template_is_silent(self):
         shown = self.play("open\n", world=self.path("w.cep", WORDS))
