@@ -159,7 +159,7 @@ class Bash(Shells, unittest.TestCase):
         return shown
 
 
-@unittest.skipUnless(shutil.which("zsh"), "zsh is missing here")
+@unittest.skipUnless(shutil.which("zsh"), "zsh is not installed")
 class Zsh(Shells, unittest.TestCase):
     complete = staticmethod(by_zsh)
 
@@ -175,7 +175,7 @@ class Zsh(Shells, unittest.TestCase):
                 self.assertEqual(sorted(set(re.findall(r"--[a-z][a-z-]*", told))), options_of(script))
 
 
-@unittest.skipUnless(shutil.which("fish"), "fish is missing here")
+@unittest.skipUnless(shutil.which("fish"), "fish is not installed")
 class Fish(Shells, unittest.TestCase):
     complete = staticmethod(by_fish)
 

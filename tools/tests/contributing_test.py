@@ -2,6 +2,7 @@
 
 import os
 import re
+import shutil
 import subprocess
 import unittest
 
@@ -12,6 +13,8 @@ RECIPES = TEXT.split("## Five recipes")[1].split("\n## ")[0]
 
 
 def git(*words):
+    if not shutil.which("git"):
+        return None
     done = subprocess.run(["git", *words], cwd=TOP, capture_output=True, text=True, check=False)
     return done.stdout.strip() if done.returncode == 0 else None
 
@@ -55,7 +58,7 @@ class Contributing(unittest.TestCase):
                 crates.add(os.path.relpath(path, os.path.join(TOP, "crates")).split(os.sep)[0])
         self.assertEqual(sorted(re.findall(r"^\| `(\w+)` \|", table, re.MULTILINE)), sorted(crates))
 
-    @unittest.skipUnless(git("rev-parse", "HEAD"), "git is missing here")
+    @unittest.skipUnless(shutil.which("git"), "git is not installed")
     def test_the_commits_are_those_of_the_history(self):
         named = re.findall(r"\*([^*]+)\*\s+\(`([0-9a-f]{8})`\)", RECIPES)
         if not any(git("cat-file", "-t", commit) for _, commit in named):

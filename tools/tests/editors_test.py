@@ -114,7 +114,7 @@ class Editors(unittest.TestCase):
             words = re.search(r"type(?:\\?\|\w+)+", read(path)).group()
             self.assertEqual(sorted(re.split(r"\\?\|", words)), sorted(RESERVED))
 
-    @unittest.skipUnless(has_vim(), "vim with syntax is missing here")
+    @unittest.skipUnless(has_vim(), "vim with syntax is not installed")
     def test_vim(self):
         for name, text in texts().items():
             with self.subTest(world=name), tempfile.TemporaryDirectory() as folder:
@@ -175,7 +175,7 @@ class Code(unittest.TestCase):
                 self.assertIsNone(refusal(path), text)
 
 
-@unittest.skipUnless(has_vim(), "vim with syntax is missing here")
+@unittest.skipUnless(has_vim(), "vim with syntax is not installed")
 class Vim(unittest.TestCase):
     def by_script(self, path, *lines):
         """What these lines of a script append to the list `found` in a world that is open."""

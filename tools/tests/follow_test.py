@@ -257,7 +257,7 @@ class Graph(unittest.TestCase):
             with self.subTest(line=line), self.assertRaises(CannotRun):
                 causes_of([line])
 
-    @unittest.skipUnless(shutil.which("dot"), "dot is missing here")
+    @unittest.skipUnless(shutil.which("dot"), "dot is not installed")
     def test_the_picture(self):
         done = subprocess.run(["dot", "-Tsvg"], input=PICTURE, capture_output=True, text=True, check=False)
         self.assertEqual((done.returncode, done.stderr), (0, ""))

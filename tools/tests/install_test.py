@@ -3,13 +3,14 @@
 import os
 import shutil
 import subprocess
+import sys
 import tempfile
 import unittest
 
 from setting import TOP, WORLDS
 
 PROGRAM = os.environ["CEPTRE"]
-BARE = {"PATH": "/usr/bin:/bin"}
+BARE = {"PATH": os.pathsep.join([os.path.dirname(sys.executable), "/usr/bin", "/bin"])}
 
 # What a checkout gives to an installation, without what tests and proofs need.
 PARTS = ("ceptre", "install", "VERSION", "CHANGELOG.md", "README.md", "LICENSE-MIT", "LICENSE-APACHE", "HANDLES", "crates.txt")
@@ -147,6 +148,7 @@ class Install(Setting):
         self.assertEqual(call([os.path.join(self.top, "install"), "--prefix"])[0], 2)
 
 
+@unittest.skipUnless(shutil.which("git"), "git is not installed")
 class Release(Setting):
     def setUp(self):
         super().setUp()

@@ -255,8 +255,7 @@ class Trial(Player):
         with subprocess.Popen(command, cwd=TOP, stdin=subprocess.PIPE, stdout=subprocess.PIPE) as player:
             player.stdin.write(b"1\n")
             player.stdin.flush()
-            while b"> sell" not in player.stdout.readline():
-                pass
+            self.assertTrue(any(b"> sell" in line for line in player.stdout))
             player.stdout.readline()
             player.kill()
         self.assertIn("\nstep sell P=ann Q=ben\n", read(log))
@@ -356,8 +355,7 @@ class Terminal(Player):
         with subprocess.Popen(command, cwd=TOP, stdin=subprocess.PIPE, stdout=subprocess.PIPE) as player:
             player.stdin.write(b"1\n")
             player.stdin.flush()
-            while b"> sell" not in player.stdout.readline():
-                pass
+            self.assertTrue(any(b"> sell" in line for line in player.stdout))
             player.send_signal(signal.SIGTERM)
             self.assertEqual(player.wait(), 0)
         self.assertEqual(self.checked(APPLE, log), "accepted 1\n")

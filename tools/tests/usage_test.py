@@ -35,7 +35,7 @@ class Manual(unittest.TestCase):
         table = read(TOP, "docs", "FORMATS.md").split("| status |")[1].split("\n\n")[0]
         self.assertEqual(told, re.findall(r"^\| (\d) \|", table, re.MULTILINE))
 
-    @unittest.skipUnless(shutil.which("mandoc"), "mandoc is missing here")
+    @unittest.skipUnless(shutil.which("mandoc"), "mandoc is not installed")
     def test_mandoc_has_nothing_to_say(self):
         pages = [os.path.join(TOP, "man", name) for name in sorted(os.listdir(os.path.join(TOP, "man")))]
         command = ["mandoc", "-Tlint", *pages]
