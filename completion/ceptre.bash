@@ -105,16 +105,17 @@ _ceptre_form() {
 # The options of a script, and what completes its words.
 _ceptre_script_form() {
     case $1 in
-    explain) options='--help --version --all --hints --format' words=('.cep' '.log') again= ;;
-    follow) options='--help --version --at --causes --dot' words=('.cep' '.log') again= ;;
-    format) options='--help --version --check' words=('.cep') again=1 ;;
-    grade) options='--help --version --goal --height --end --typed --seed --turns --json --jobs' words=('.cep' '.log') again=1 ;;
-    player) options='--help --version --log --load --from --rows --plain' words=('.cep' 'seed= height= turns=') again=1 ;;
+    explain) options='--help --version --all --hints --format --memory' words=('.cep' '.log') again= ;;
+    follow) options='--help --version --at --causes --dot --memory' words=('.cep' '.log') again= ;;
+    format) options='--help --version --check --memory' words=('.cep') again=1 ;;
+    grade) options='--help --version --goal --height --end --typed --seed --turns --json --jobs --memory' words=('.cep' '.log') again=1 ;;
+    player) options='--help --version --log --load --from --rows --plain --memory' words=('.cep' 'seed= height= turns=') again=1 ;;
     publish) options='--help --version --title --output --transcript --site --players --seed --height --turns' words=('.cep') again= ;;
-    replay) options='--help --version --seed --turns --typed --words' words=('.cep' '.log') again= ;;
-    sample) options='--help --version --runs --seed --players-by-seed --height --turns --goal --csv --jobs' words=('.cep') again= ;;
+    replay) options='--help --version --seed --turns --typed --words --memory' words=('.cep' '.log') again= ;;
+    sample) options='--help --version --runs --seed --players-by-seed --height --turns --goal --csv --jobs --memory' words=('.cep') again= ;;
     server) options='--help --version' words=() again= ;;
-    why) options='--help --version' words=('.cep' '.log' '-' 'rules' '-') again=1 ;;
+    solve) options='--help --version --goal --stuck --states --seconds --by-seed --seed --height --turns --log --typed --plain --jobs --memory' words=('.cep') again= ;;
+    why) options='--help --version --memory' words=('.cep' '.log' '-' 'rules' '-') again=1 ;;
     esac
 }
 
@@ -122,8 +123,11 @@ _ceptre_script_form() {
 _ceptre_value() {
     case $1:$2 in
     explain:--format) value='text gcc' ;;
+    explain:--memory) value='-' ;;
     follow:--at) value='-' ;;
     follow:--causes) value='-' ;;
+    follow:--memory) value='-' ;;
+    format:--memory) value='-' ;;
     grade:--goal) value='atoms' ;;
     grade:--height) value='-' ;;
     grade:--end) value='quiet turns offers input typed atom state' ;;
@@ -131,10 +135,12 @@ _ceptre_value() {
     grade:--seed) value='-' ;;
     grade:--turns) value='-' ;;
     grade:--jobs) value='-' ;;
+    grade:--memory) value='-' ;;
     player:--log) value='FILE' ;;
     player:--load) value='FILE' ;;
     player:--from) value='.log' ;;
     player:--rows) value='-' ;;
+    player:--memory) value='-' ;;
     publish:--title) value='-' ;;
     publish:--output) value='FILE' ;;
     publish:--transcript) value='.log' ;;
@@ -145,15 +151,28 @@ _ceptre_value() {
     publish:--turns) value='-' ;;
     replay:--seed) value='-' ;;
     replay:--turns) value='-' ;;
+    replay:--memory) value='-' ;;
     sample:--runs) value='-' ;;
     sample:--seed) value='-' ;;
     sample:--height) value='-' ;;
     sample:--turns) value='-' ;;
     sample:--goal) value='atoms' ;;
     sample:--jobs) value='-' ;;
+    sample:--memory) value='-' ;;
+    solve:--goal) value='atoms' ;;
+    solve:--states) value='-' ;;
+    solve:--seconds) value='-' ;;
+    solve:--seed) value='-' ;;
+    solve:--height) value='-' ;;
+    solve:--turns) value='-' ;;
+    solve:--log) value='FILE' ;;
+    solve:--typed) value='FILE' ;;
+    solve:--jobs) value='-' ;;
+    solve:--memory) value='-' ;;
+    why:--memory) value='-' ;;
     *) value= ;;
     esac
 }
 
-complete -F _ceptre_script {,./}tools/{explain,follow,format,grade,player,publish,replay,sample,server,why} ceptre-{explain,follow,format,grade,player,publish,replay,sample,server,why}
+complete -F _ceptre_script {,./}tools/{explain,follow,format,grade,player,publish,replay,sample,server,solve,why} ceptre-{explain,follow,format,grade,player,publish,replay,sample,server,solve,why}
 # end of what is made

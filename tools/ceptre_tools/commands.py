@@ -169,11 +169,21 @@ def between(least: int, most: int) -> Callable[[str], int]:
     return number
 
 
+def size(text: str) -> int:
+    """A number of bytes, such as 500M or 4G, and 16M at least."""
+    number, unit = (text[:-1], text[-1]) if text[-1:] in ("K", "M", "G") else (text, "")
+    found = int(number) << {"": 0, "K": 10, "M": 20, "G": 30}[unit]
+    if found < 1 << 24:
+        raise ValueError(text)
+    return found
+
+
 WORLD = Option("WORLD", "the file of the world", completed=".cep")
 SEED = Option("--seed", "as for `ceptre play`", "N", kind=int)
 HEIGHT = Option("--height", "as for `ceptre play`", "N", kind=int)
 TURNS = Option("--turns", "as for `ceptre play`", "N", kind=int)
 JOBS = Option("--jobs", "how many at once; else one for each processor", "N", kind=count)
+MEMORY = Option("--memory", "the most that the program may take, such as 500M (4G)", "SIZE", kind=size)
 PROGRAM = "CEPTRE names the program; else it is the one that ./ceptre runs."
 
 EXPLAIN = Script(
@@ -195,6 +205,7 @@ of a hint or in the line before, silences it.""",
             completed="text gcc",
             default="text",
         ),
+        MEMORY,
     ),
     """0 the world (and the transcript) is accepted, 1 it is refused and that is explained, or --hints
 has some, 2 usage, 3 something could not be read, run or written.""",
@@ -216,6 +227,7 @@ draws all of them.""",
         Option("--at", "the state after step K; 0 is the start", "K", kind=int, group="part"),
         Option("--causes", "the earlier steps that step K rests on", "K", kind=int, group="part"),
         Option("--dot", "all of these causes, as a picture for Graphviz", group="part"),
+        MEMORY,
     ),
     """0 it is shown; 1 the transcript is refused, or has no such step; 2 usage; 3 the world is refused, or
 the program, the world or the transcript could not be read, or the program has no command `cause`; 4 it
@@ -258,6 +270,7 @@ by, so ask for one of at most your own; an end word other than `quiet` is its ow
             "--json", "in the shape of Gradescope's results.json, for several transcripts a list of such"
         ),
         JOBS,
+        MEMORY,
     ),
     """0 all are accepted, and all that is asked is met; 1 some are refused; 2 usage, or the world has no
 such atom as a goal names; 3 the world is refused, or the program, the world or a transcript could not
@@ -295,6 +308,7 @@ numbers. Templates in comments of the world make prose of it: docs/FORMATS.md li
         ),
         Option("--rows", "the rows of a page; else the terminal's", "N", kind=int),
         Option("--plain", "the program's own texts, without prose"),
+        MEMORY,
     ),
     """0 the game was ended or left, 2 usage, 3 the world is refused, or the transcript of --from is
 refused or cannot be done again, or something could not be read, run or written.""",
@@ -348,6 +362,7 @@ conversation in the transcript is passed over, and derivations may be others."""
         TURNS,
         Option("--typed", "write what is typed, as without this", group="written"),
         Option("--words", "write the options of `ceptre play` for it", group="written"),
+        MEMORY,
     ),
     """0 it is written; 1 the transcript is refused, or the run does something else, and nothing is written
 but the step and why; 2 usage; 3 the world is refused, or something could not be read, run or written.""",
@@ -368,9 +383,45 @@ runs the world, and what is counted is what it wrote.""",
         Option("--goal", "count the last states that have it", "ATOM", completed="atoms", times="*"),
         Option("--csv", "a row for each run in place of the table"),
         JOBS,
+        MEMORY,
     ),
     """0 it is shown; 2 usage, or the world has no such atom as a goal names; 3 the world is refused, or
 something could not be read, run or written.""",
+)
+
+SOLVE = Script(
+    """Searches the states of a world for one that has all goals, breadth first: typed choices are branches,
+and choices of nobody too. It answers a way of the fewest steps, with what is typed, or that there is none.
+The program says of each state what applies there, and checks the transcript of each way that is shown.
+
+A state is a stage and a multiset, and equal ones are asked once. *none: all M states were seen* is said
+only where each state that can be reached was asked, and no run ended by a limit. With --stuck all states
+are searched, and those from which no goal can be reached are shown, with a way to each.""",
+    (
+        WORLD,
+        Option(
+            "--goal",
+            "an atom (`_` stands for any term), `have N ATOM` or `none ATOM`; of several all at once",
+            "ATOM",
+            completed="atoms",
+            times="*",
+        ),
+        Option("--stuck", "the states from which no goal can be reached"),
+        Option("--states", "how many states are seen at most (100000)", "N", kind=count, default=100_000),
+        Option("--seconds", "how long to search at most", "N", kind=count),
+        Option("--by-seed", "keep to what the seed chooses"),
+        SEED,
+        HEIGHT,
+        TURNS,
+        Option("--log", "write the transcript of the way", "FILE", completed="FILE"),
+        Option("--typed", "write what is typed", "FILE", completed="FILE"),
+        Option("--plain", "the program's own texts, without prose"),
+        JOBS,
+        MEMORY,
+    ),
+    """0 a way is shown, or with --stuck a goal can be reached from everywhere; 1 there is none, or with
+--stuck some states from which there is none; 2 usage, or the world has no such atom as a goal names; 3 the
+world is refused, or something could not be read, run or written; 4 none was found before a limit.""",
 )
 
 WHY = Script(
@@ -383,6 +434,7 @@ of its premises are met by what, in how many ways, and which one nothing meets. 
         Option("K", "the step; 0 is the start", kind=int),
         Option("RULE", "the name of the rule", completed="rules"),
         Option("X=VALUE", "values of its variables", times="*"),
+        MEMORY,
     ),
     """0 the rule is offered there, 1 it is not, 2 usage, or there is no such step, rule or variable, 3 the
 world or the transcript is refused, or something could not be read, run or written.""",
@@ -395,6 +447,7 @@ tokens or its grammar is left as it is.""",
     (
         Option("WORLD", "a file of a world", completed=".cep", times="*"),
         Option("--check", "write nothing; status 1 if a world is not in the layout"),
+        MEMORY,
     ),
     """0 all are in the layout now, 1 --check found one that is not, or one is refused and left as it is,
 2 usage, 3 something could not be read, run or written.""",
@@ -419,6 +472,7 @@ SCRIPTS = {
     "replay": REPLAY,
     "sample": SAMPLE,
     "server": SERVER,
+    "solve": SOLVE,
     "why": WHY,
 }
 

@@ -5,7 +5,12 @@ import functools
 import os
 import subprocess
 from collections.abc import Iterator
-from typing import NamedTuple, Optional
+from typing import Any, NamedTuple, Optional
+
+try:
+    import resource
+except ImportError:  # Only where there are no such limits.
+    resource = None  # type: ignore[assignment]
 
 from ceptre_tools.text import read_text
 
@@ -14,6 +19,9 @@ TOP = os.path.dirname(os.path.dirname(os.path.dirname(os.path.realpath(__file__)
 
 # Statuses of the program, as docs/FORMATS.md has them.
 DONE, REJECTED, USAGE, REFUSED, LIMIT, UNREAD, NO_MEMORY = 0, 1, 2, 3, 4, 7, 9
+
+# The most bytes of memory that the program may take, unless --memory says another number.
+MEMORY = 4 << 30
 
 # The most bytes of a world and of a transcript, as docs/LIMITS.md has them.
 MOST_WORLD, MOST_LOG = 1 << 20, 1 << 26
@@ -66,15 +74,34 @@ def command() -> str:
     return os.environ.get("CEPTRE") or found()
 
 
-def run(*words: str, typed: bytes = b"") -> Answer:
-    """What the program answers, called with these words."""
+def limit_memory(size: int) -> None:
+    """Has each program that is started from now on take at most so many bytes of memory."""
+    globals()["MEMORY"] = size
+
+
+def started(*words: str, **streams: Any) -> "subprocess.Popen[bytes]":
+    """The program as a child, called with these words, under the limit of memory."""
     program = command()
     try:
-        done = subprocess.run([program, *words], input=typed, stdout=subprocess.PIPE, check=False)
+        child = subprocess.Popen([program, *words], **streams)
     except OSError as error:
         raise CannotRun(f"{program}: {error.strerror}") from error
-    text = done.stdout.decode("latin-1")
-    return Answer(done.returncode, text.removesuffix("\n").split("\n") if text else [])
+    if hasattr(resource, "prlimit"):
+        # A child that is gone needs no limit, and one that is under a lower limit already keeps that.
+        with contextlib.suppress(OSError, ValueError):
+            resource.prlimit(child.pid, resource.RLIMIT_AS, (MEMORY, MEMORY))
+    return child
+
+
+def run(*words: str, typed: bytes = b"") -> Answer:
+    """What the program answers, called with these words."""
+    with started(*words, stdin=subprocess.PIPE, stdout=subprocess.PIPE) as child:
+        try:
+            text = child.communicate(typed)[0].decode("latin-1")
+        except BaseException:
+            child.kill()
+            raise
+    return Answer(child.returncode, text.removesuffix("\n").split("\n") if text else [])
 
 
 def refusal(world: str) -> Optional[str]:

@@ -11,7 +11,7 @@ from collections.abc import Callable, Iterable, Iterator
 from typing import Optional, TypeVar
 
 from ceptre_tools import commands
-from ceptre_tools.program import CannotRun
+from ceptre_tools.program import CannotRun, limit_memory
 from ceptre_tools.text import unreadable
 
 # The status of a script that could not read, run or write something, and of words that have no form.
@@ -64,7 +64,10 @@ def script(name: str, work: Work) -> int:
 def answered(name: str, work: Work) -> int:
     """The status of a script's work. What cannot be read, run or written is said in one line."""
     try:
-        return work(commands.parser(name).parse_args())
+        words = commands.parser(name).parse_args()
+        if getattr(words, "memory", None):
+            limit_memory(words.memory)
+        return work(words)
     except BrokenPipeError:
         raise
     except CannotRun as error:

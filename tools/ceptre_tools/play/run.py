@@ -5,7 +5,7 @@ import subprocess
 from collections.abc import Iterable
 from typing import IO, Optional
 
-from ceptre_tools.program import CannotRun, command, ended
+from ceptre_tools.program import CannotRun, ended, started
 
 OFFER = re.compile(r"\? ([0-9]+) (.*)")
 
@@ -20,17 +20,9 @@ class Run:
         self.lines: list[str] = []
         self.typed: list[int] = []
         self.offers: list[str] = []
-        program = command()
-        try:
-            # In a session of its own, so that Ctrl-C at the terminal does not end it.
-            self.child = subprocess.Popen(
-                [program, "play", *words],
-                stdin=subprocess.PIPE,
-                stdout=subprocess.PIPE,
-                start_new_session=True,
-            )
-        except OSError as error:
-            raise CannotRun(f"{program}: {error.strerror}") from error
+        # In a session of its own, so that Ctrl-C at the terminal does not end it.
+        streams = {"stdin": subprocess.PIPE, "stdout": subprocess.PIPE}
+        self.child = started("play", *words, start_new_session=True, **streams)
         assert self.child.stdin and self.child.stdout
         self.input, self.output = self.child.stdin, self.child.stdout
 
