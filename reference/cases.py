@@ -77,7 +77,8 @@ class Player:
     def changed(self, text: str, line: str) -> str:
         """A text with the change that a line names."""
         if line in ("-", "open", "returns", "record"):
-            return {"-": text, "open": text[:-1] if text.endswith("\n") else text, "returns": text.replace("\n", "\r\n"),
+            return {"-": text, "open": text[:-1] if text.endswith("\n") else text,
+                    "returns": text.replace("\n", "\r\n"),
                     "record": "".join([each for each in text.splitlines(True) if not each.startswith("?")])}[line]
         if line.startswith("~ "):
             old, _, new = line[2:].partition(" => ")
@@ -86,8 +87,8 @@ class Player:
         lines = [each + "\n" for each in text.split("\n")[:-1]] + [text.split("\n")[-1]]
         if not cut:
             return "".join(lines[:int(digits)])
-        new = [self.spell(body[1:] if body.startswith(" ") else body) + "\n"] if body else []
-        return "".join(lines[:int(digits) - 1] + new + lines[int(digits):])
+        put = [self.spell(body[1:] if body.startswith(" ") else body) + "\n"] if body else []
+        return "".join(lines[:int(digits) - 1] + put + lines[int(digits):])
 
     def set(self, target: str, text: Optional[str]) -> None:
         """Puts a text where it belongs."""

@@ -1,4 +1,5 @@
-"""Why a transcript is refused, and what is asked of a legal one: FORMATS, What is reported of a transcript and The graph of a transcript."""
+"""Why a transcript is refused, and what is asked of a legal one: FORMATS, What is reported of a transcript and The
+graph of a transcript."""
 from typing import Dict, List, Optional, Set, Tuple
 
 from reference.play import Seed
@@ -7,7 +8,7 @@ from reference.derive import height_of
 from reference.steps import Machine, Offer
 from reference.terms import Node, instance
 from reference.texts import Texts
-from reference.transcript import MOST_LOG, Listing, Log, LogReader, Step, Unread, log_text
+from reference.transcript import MOST_LOG, Listing, LogReader, Step, Unread, log_text
 
 
 class Checked:
@@ -21,7 +22,8 @@ class Checked:
         self.stage, self.state = program.stage, program.state
         self.states: List[State] = []
         if self.log.stage != program.stage:
-            raise Unread(self.log.start.line, f"StartStage said {program.stages[self.log.stage]} is {program.stages[program.stage]}")
+            said, wanted = program.stages[self.log.stage], program.stages[program.stage]
+            raise Unread(self.log.start.line, f"StartStage said {said} is {wanted}")
         self.compare("StartState", self.log.start, self.state)
         for step in self.log.steps:
             self.step(step)
@@ -48,8 +50,10 @@ class Checked:
         if passed:
             raise Unread(step.line, f"OverLimit {passed}")
         if rule.leads is not None and step.stage is not None and step.stage != rule.leads:
-            raise Unread(step.line, f"StageLine said {self.program.stages[step.stage]} is {self.program.stages[rule.leads]}")
-        self.stage, self.state = self.machine.next_stage(self.stage, step.offer), self.machine.after(self.state, step.offer)
+            said, wanted = self.program.stages[step.stage], self.program.stages[rule.leads]
+            raise Unread(step.line, f"StageLine said {said} is {wanted}")
+        self.stage = self.machine.next_stage(self.stage, step.offer)
+        self.state = self.machine.after(self.state, step.offer)
         self.states.append(self.state)
         if step.middle:
             self.compare("MidState", step.middle, self.state)
@@ -60,7 +64,8 @@ class Checked:
         lacking = [atom for atom, need in left.items() if need > self.state.get(atom, 0)]
         if lacking:
             atom = min(lacking)
-            raise Unread(step.line, f"NotContained have {self.state.get(atom, 0)} need {left[atom]} {self.texts.atom(atom)}")
+            have, need = self.state.get(atom, 0), left[atom]
+            raise Unread(step.line, f"NotContained have {have} need {need} {self.texts.atom(atom)}")
 
     def check_proofs(self, step: Step) -> None:
         """NotProved, and TooHigh, for each backward premise in order."""
@@ -94,7 +99,8 @@ def within(text: str) -> Tuple[str, int]:
 
 
 class Graph:
-    """FORMATS, The graph of a transcript: which tokens each step uses, removes and makes, and on which earlier steps it rests."""
+    """FORMATS, The graph of a transcript: which tokens each step uses, removes and makes, and on which earlier steps it
+    rests."""
 
     def __init__(self, checked: Checked) -> None:
         self.checked, self.program = checked, checked.program
@@ -137,18 +143,21 @@ class Graph:
 
     def rests_on(self, later: int, earlier: int) -> bool:
         """Whether a step uses a token that an earlier one made, or removes one that the earlier used."""
-        return bool(self.touched[later][0] & self.touched[earlier][2] or self.touched[later][1] & self.touched[earlier][0])
+        (used, removed, _), (used_before, _, made_before) = self.touched[later], self.touched[earlier]
+        return bool(used & made_before or removed & used_before)
 
     def lines(self) -> List[str]:
         """The lines of `cause`."""
         found = []
         for step in range(len(self.touched)):
             after = [str(earlier + 1) for earlier in range(step) if self.rests_on(step, earlier)]
-            found.append(" ".join([f"step {step + 1}"] + ["all"] * self.is_barrier(step) + ["after"] * bool(after) + after))
+            words = ["all"] * self.is_barrier(step) + ["after"] * bool(after) + after
+            found.append(" ".join([f"step {step + 1}"] + words))
         return found
 
     def order(self, seed: int) -> List[int]:
-        """One of the steps that wait for none, again and again: of several the one that the next word of the seed stands for."""
+        """One of the steps that wait for none, again and again: of several the one that the next word of the seed
+        stands for."""
         drawn, order = Seed(seed), []
         waits = {step: {earlier for earlier in range(step) if self.is_barrier(step) or self.is_barrier(earlier)
                         or self.rests_on(step, earlier)} for step in range(len(self.touched))}
@@ -162,7 +171,8 @@ class Graph:
         return order
 
     def again(self, seed: int) -> Tuple[str, int]:
-        """What `again` writes: the transcript in this order, or the first step of it that leads to a state over a limit."""
+        """What `again` writes: the transcript in this order, or the first step of it that leads to a state over a
+        limit."""
         log, machine = self.checked.log, self.checked.machine
         steps = [log.steps[step] for step in self.order(seed)]
         states: List[State] = []

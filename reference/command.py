@@ -13,8 +13,9 @@ from reference.program import Program, accept
 from reference.texts import number_of
 from reference.transcript import Unread
 
-USAGE = ("usage: play FILE [seed=N] [height=N] [turns=N] | check FILE LOG | world N [seed=N] [height=N] [turns=N] | renew FILE LOG | "
-         "cause FILE LOG | again FILE LOG [seed=N] | rounds FILE players=N [seed=N] [height=N] [turns=N] | weigh FILE KEEPS | dead FILE\n")
+USAGE = ("usage: play FILE [seed=N] [height=N] [turns=N] | check FILE LOG | world N [seed=N] [height=N] [turns=N] | "
+         "renew FILE LOG | cause FILE LOG | again FILE LOG [seed=N] | "
+         "rounds FILE players=N [seed=N] [height=N] [turns=N] | weigh FILE KEEPS | dead FILE\n")
 BOUNDS = {"players": (2, 16), "seed": (0, 2 ** 64 - 1), "height": (1, 512), "turns": (1, 1_000_000)}
 RUN = ("seed", "height", "turns")
 FORMS: Dict[str, Tuple[int, Tuple[str, ...]]] = {
@@ -50,9 +51,10 @@ def asked_by(words: List[str]) -> Optional[Asked]:
         if number is None:
             return None
         values[name] = number
-    right = len(files) == count and len(words) == count + 1 + len(values) and (words[0] != "rounds" or "players" in values)
+    right = len(files) == count and len(words) == count + 1 + len(values)
+    players = words[0] != "rounds" or "players" in values
     rooms = words[0] != "world" or number_of("".join(files), 1, 5_000) is not None
-    return Asked(words[0], files, values) if right and rooms else None
+    return Asked(words[0], files, values) if right and players and rooms else None
 
 
 def settings_of(program: Program, options: Dict[str, int]) -> Settings:
@@ -62,7 +64,8 @@ def settings_of(program: Program, options: Dict[str, int]) -> Settings:
 
 
 def run(words: List[str], files: Dict[str, str], typed: str, most_work: int = MOST_WORK) -> Answer:
-    """The whole command. Files are texts of bytes by their names; of one that is not there the command says that it cannot be read."""
+    """The whole command. Files are texts of bytes by their names; of one that is not there the command says that it
+    cannot be read."""
     asked = asked_by(words)
     if not asked:
         return Answer(USAGE, 2)
@@ -116,8 +119,8 @@ def world(rooms: int, options: Dict[str, int], most_work: int) -> Answer:
     settings = settings_of(program, options)
     played = Run(program, settings, "", most_work)
     word = played.play()
-    return Answer(*status_of(word, [f"world {rooms}", f"seed {settings.seed}", f"turns {played.turns}", f"offers {played.offered}",
-                                    f"copies {sum(played.state.values())}", f"end {word}"]))
+    return Answer(*status_of(word, [f"world {rooms}", f"seed {settings.seed}", f"turns {played.turns}",
+                                    f"offers {played.offered}", f"copies {sum(played.state.values())}", f"end {word}"]))
 
 
 def status_of(word: str, lines: List[str]) -> Tuple[str, int]:

@@ -13,7 +13,8 @@ class Table(NamedTuple):
 
 
 class Shape(NamedTuple):
-    """A rule or a clause: its premises, what it adds, its variables, the stage that it is in, and the one to which it leads."""
+    """A rule or a clause: its premises, what it adds, its variables, the stage that it is in, and the one to which it
+    leads."""
     premises: List[Node]
     adds: List[Node]
     variables: List[Variable]
@@ -32,28 +33,29 @@ def is_open(table: Table, atom: Node) -> bool:
                                                for position, arg in enumerate(atom[1:]) if not isinstance(arg, int))
 
 
-def sets_of(program: Program, table: Table, shape: Shape) -> Dict[int, Set[int]]:
+def sets_of(table: Table, shape: Shape) -> Dict[int, Set[int]]:
     """The sets of the variables that stand by themselves at some position of a premise."""
     sets: Dict[int, Set[int]] = {}
     for atom in shape.premises:
         for position, arg in enumerate(atom[1:]):
             if isinstance(arg, int):
-                there = {number for number in range(len(program.constructors)) if (atom[0], position, number) in table.constructors}
+                there = {number for predicate, at, number in table.constructors
+                         if (predicate, at) == (atom[0], position)}
                 sets[arg] = sets.get(arg, there) & there
     return sets
 
 
-def passes(program: Program, table: Table, shape: Shape) -> bool:
+def passes(table: Table, shape: Shape) -> bool:
     """Whether all premises are open, no such set is empty, and the stage is there."""
-    return (shape.stage is None or shape.stage in table.stages) and all(is_open(table, atom) for atom in shape.premises) \
-        and all(sets_of(program, table, shape).values())
+    return (shape.stage is None or shape.stage in table.stages) and all(
+        is_open(table, atom) for atom in shape.premises) and all(sets_of(table, shape).values())
 
 
 def next_table(program: Program, table: Table, shapes: List[Shape]) -> Table:
     """The table of the next round: with what those add that pass this one."""
     stages, predicates, constructors = set(table.stages), set(table.predicates), set(table.constructors)
     for shape in shapes:
-        if passes(program, table, shape):
+        if passes(table, shape):
             stages |= set() if shape.leads is None else {shape.leads}
             predicates |= {atom[0] for atom in shape.adds}
             constructors |= {(atom[0], position, number) for atom in shape.adds for position, arg in enumerate(atom[1:])
@@ -62,19 +64,21 @@ def next_table(program: Program, table: Table, shapes: List[Shape]) -> Table:
 
 
 def possible(program: Program, table: Table, shape: Shape, arg: object) -> Set[int]:
-    """The constructors that an argument can begin with: its own, the set of a variable, or all constructors of its type."""
+    """The constructors that an argument can begin with: its own, the set of a variable, or all constructors of its
+    type."""
     if isinstance(arg, tuple):
         return {arg[0]}
     assert isinstance(arg, int)
     of_type = {number for number, each in enumerate(program.constructors) if each.type == shape.variables[arg].type}
-    return sets_of(program, table, shape).get(arg, of_type)
+    return sets_of(table, shape).get(arg, of_type)
 
 
 def last_table(program: Program) -> Table:
     """From the start, round by round, until a round adds nothing."""
     table = Table({program.stage}, {atom[0] for atom in program.state},
                   {(atom[0], position, arg[0]) for atom in program.state for position, arg in enumerate(atom[1:])})
-    shapes = [shape_of(rule) for rule in program.rules] + [Shape(each.goals, [each.head], each.variables) for each in program.clauses]
+    shapes = [shape_of(rule) for rule in program.rules]
+    shapes += [Shape(each.goals, [each.head], each.variables) for each in program.clauses]
     while True:
         more = next_table(program, table, shapes)
         if more == table:
@@ -90,7 +94,7 @@ def why(program: Program, table: Table, rule: Rule) -> str:
     shut = [number for number, atom in enumerate(shape.premises, 1) if not is_open(table, atom)]
     if shut:
         return f"premise {shut[0]}"
-    empty = [variable for variable, there in sorted(sets_of(program, table, shape).items()) if not there]
+    empty = [variable for variable, there in sorted(sets_of(table, shape).items()) if not there]
     return f"var {rule.variables[empty[0]].name}" if empty else ""
 
 

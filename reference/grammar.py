@@ -1,6 +1,6 @@
 """From the bytes of a text to its items. Texts are strings of bytes: each character is one byte (latin-1)."""
 import re
-from dataclasses import dataclass
+from dataclasses import dataclass, field
 from typing import List, NamedTuple, Optional, Tuple, Union
 
 MOST_BYTES, MOST_NAME, MOST_OPEN = 1_048_576, 255, 512
@@ -8,8 +8,8 @@ RESERVED = ("type", "pred", "bwd", "fact", "stage", "context", "qui")
 GAP = re.compile(r"(?:[ \t\r\n]|%[^\n]*)*")
 TOKEN = re.compile(r"(?P<Name>[a-z][A-Za-z0-9_/']*)|(?P<Variable>[A-Z][A-Za-z0-9_/']*)|(?P<Blank>_)|(?P<Number>[0-9]+)"
                    r"|(?P<Directive>\#[A-Za-z]+)|(?P<Mark>-o|<-|[:.,*$=(){}])")
-REASONS = ("BadByte NameLong Unexpected Nested Twice Unknown WrongKind WrongArity TypeClash VarInContext BwdInState LinearInClause "
-           "BadQui NoTrace TwoTraces Unbound Ungrounded OverLimit TooLong").split()
+REASONS = ("BadByte NameLong Unexpected Nested Twice Unknown WrongKind WrongArity TypeClash VarInContext BwdInState "
+           "LinearInClause BadQui NoTrace TwoTraces Unbound Ungrounded OverLimit TooLong").split()
 
 
 class Refused(Exception):
@@ -81,15 +81,16 @@ class RawClause(NamedTuple):
 
 @dataclass
 class RawRule:
-    """A rule, of a stage or an outer one: its premises with whether they have `$`, its right atoms, and what only outer rules have."""
+    """A rule, of a stage or an outer one: its premises with whether they have `$`, its right atoms, and what only outer
+    rules have."""
     at: int
     label: Optional[Token]
     outer: bool
-    left: List[Tuple[Raw, bool]]
-    right: List[Raw]
-    quis: int
-    leaves: List[Token]
-    leads: List[Token]
+    left: List[Tuple[Raw, bool]] = field(default_factory=list)
+    right: List[Raw] = field(default_factory=list)
+    quis: int = 0
+    leaves: List[Token] = field(default_factory=list)
+    leads: List[Token] = field(default_factory=list)
 
 
 class RawStage(NamedTuple):
@@ -123,8 +124,8 @@ ARGUMENTS = ("Name", "Variable", "Blank", "(")
 
 
 class Parser:
-    """LANGUAGE, Grammar: a method for each form. What is wanted next is all that can stand there, so `Unexpected` is at the first token
-    such that those up to it and with it begin no file."""
+    """LANGUAGE, Grammar: a method for each form. What is wanted next is all that can stand there, so `Unexpected` is at
+    the first token such that those up to it and with it begin no file."""
 
     def __init__(self, text: str) -> None:
         self.tokens = tokens_of(text)
@@ -169,13 +170,13 @@ class Parser:
             return Interactive(stage)
         if start.kind == "#trace":
             return self.trace(start)
-        if start.kind == "stage" and self.tokens[self.next].kind == "Name" and self.tokens[self.next + 1].kind not in ("*", "-o"):
+        if start.kind == "stage" and self.kind() == "Name" and self.tokens[self.next + 1].kind not in ("*", "-o"):
             return self.stage()
         if start.kind == "Blank":
             self.take(":")
-            return self.outer_rule(RawRule(start.at, None, True, [], [], 0, [], []))
+            return self.rule(RawRule(start.at, None, True))
         self.next -= 1
-        return self.named(start) if start.kind == "Name" else self.outer_rule(RawRule(start.at, None, True, [], [], 0, [], []))
+        return self.named(start) if start.kind == "Name" else self.rule(RawRule(start.at, None, True))
 
     def dotted(self, item: Item) -> Item:
         """A dot after an item that may have one."""
@@ -192,24 +193,25 @@ class Parser:
             self.take(".")
             return Declaration(kind, start, [], None)
         if self.kind() != "Name":
-            return self.outer_rule(RawRule(start.at, start, True, [], [], 0, [], []))
+            return self.rule(RawRule(start.at, start, True))
         if self.tokens[self.next + 1].kind == ".":
             self.next += 2
             return Declaration("colon", start, [], self.tokens[self.next - 2])
         return self.after_atom(start, start)
 
     def after_atom(self, start: Token, label: Optional[Token]) -> Item:
-        """What begins with an atom: a declaration if it is names alone, else a clause or an outer rule, as what follows the atom says."""
+        """What begins with an atom: a declaration if it is names alone, else a clause or an outer rule, as what follows
+        the atom says."""
         first = self.next
         atom = self.atom()
         words = self.tokens[first + 1:self.next]
         if not label and words and all(word.kind == "Name" for word in words) and self.has(":"):
             kind = self.take("pred", "bwd", "fact", "Name")
             self.take(".")
-            return Declaration(kind.kind, start, words, kind) if kind.kind != "Name" else Declaration("constructor", start, words, kind)
+            return Declaration("constructor" if kind.kind == "Name" else kind.kind, start, words, kind)
         if self.kind() in ("*", "-o"):
             self.next = first
-            return self.outer_rule(RawRule(start.at, label, True, [], [], 0, [], []))
+            return self.rule(RawRule(start.at, label, True))
         return self.clause(atom)
 
     def clause(self, head: Raw) -> Item:
@@ -220,7 +222,7 @@ class Parser:
             arrow = self.take("<-", ",", ".")
         return RawClause(atoms)
 
-    def outer_rule(self, rule: RawRule) -> RawRule:
+    def rule(self, rule: RawRule) -> RawRule:
         """oleft "-o" oright ".", or left "-o" right "." if the rule is none of the outer ones."""
         self.left_element(rule)
         while self.take("*", "-o").kind == "*":
@@ -266,7 +268,7 @@ class Parser:
         while not self.has("}"):
             label = self.take("Name")
             self.take(":")
-            rules.append(self.outer_rule(RawRule(label.at, label, False, [], [], 0, [], [])))
+            rules.append(self.rule(RawRule(label.at, label, False)))
         return self.dotted(RawStage(name, rules))
 
     def trace(self, start: Token) -> Item:
@@ -274,9 +276,9 @@ class Parser:
         turns = self.take("Blank", "Number")
         stage = self.take("Name")
         context = self.take("Name") if self.kind() != "{" else None
-        trace = Trace(start.at, turns if turns.kind == "Number" else None, stage, context, [] if context else self.bag())
+        atoms = [] if context else self.bag()
         self.take(".")
-        return trace
+        return Trace(start.at, turns if turns.kind == "Number" else None, stage, context, atoms)
 
     def bag(self) -> List[Raw]:
         """bag = "{" [ relem { ( "," | "*" ) relem } ] "}" """

@@ -1,7 +1,9 @@
-"""LANGUAGE, Names, variables and types: what a text declares, and all that is wrong with its names, numbers of things and limits."""
+"""LANGUAGE, Names, variables and types: what a text declares, and all that is wrong with its names, numbers of things
+and limits."""
 from typing import Dict, List, Optional, Tuple
 
-from reference.grammar import Declaration, Interactive, Item, Raw, RawClause, RawContext, RawRule, RawStage, Refused, Token, Trace
+from reference.grammar import (Declaration, Interactive, Item, Raw, RawClause, RawContext, RawRule, RawStage, Refused,
+                               Token, Trace)
 from reference.terms import MOST_COPIES, MOST_DEPTH, MOST_NODES, MOST_STATE_NODES
 
 SPACES = ("type", "constructor", "predicate", "stage", "context", "rule")
@@ -32,9 +34,9 @@ class Names:
 
     def declared_names(self) -> Dict[str, str]:
         """For `x : y.`: which names are predicates, and which are types."""
-        found = {item.name.text: "predicate" for item in self.items
-                 if isinstance(item, Declaration) and item.kind in ("pred", "bwd", "fact")}
-        found.update({item.name.text: "type" for item in self.items if isinstance(item, Declaration) and item.kind == "type"})
+        declared = [item for item in self.items if isinstance(item, Declaration)]
+        found = {item.name.text: "predicate" for item in declared if item.kind in ("pred", "bwd", "fact")}
+        found.update({item.name.text: "type" for item in declared if item.kind == "type"})
         return found
 
     def add(self, space: str, name: str, at: int) -> None:
@@ -101,7 +103,8 @@ class Names:
         return number
 
     def check(self) -> None:
-        """Refuses the text for the first fault of its names: the earliest, and at one place the one of the lowest number."""
+        """Refuses the text for the first fault of its names: the earliest, and at one place the one of the lowest
+        number."""
         for declaration in self.constructors + self.predicates:
             self.check_types(declaration)
         for rule, _, stage in self.rules:
@@ -193,11 +196,14 @@ class Names:
                 self.faults.append((atom.at, 18))
 
     def is_context(self, atom: Raw) -> bool:
-        """In braces of `#trace` a name without arguments that is no predicate but a context stands for the context's atoms."""
-        return not atom.args and self.number("predicate", atom.name) is None and self.number("context", atom.name) is not None
+        """In braces of `#trace` a name without arguments that is no predicate but a context stands for the context's
+        atoms."""
+        number, context = self.number("predicate", atom.name), self.number("context", atom.name)
+        return not atom.args and number is None and context is not None
 
     def check_trace(self, number: int, trace: Trace) -> None:
-        """What is played: the names, the number of turns, and that there is one such item, whose start state is within the limits."""
+        """What is played: the names, the number of turns, and that there is one such item, whose start state is within
+        the limits."""
         self.use("stage", trace.stage.text, trace.stage.at)
         if trace.context:
             self.use("context", trace.context.text, trace.context.at)
@@ -222,7 +228,8 @@ class Names:
         return atoms
 
     def is_too_large(self, atoms: List[Raw]) -> bool:
-        """LIMITS, Texts: a start state over 100,000 copies or 4,194,304 nodes, each copy counted but those of a fact."""
+        """LIMITS, Texts: a start state over 100,000 copies or 4,194,304 nodes, each copy counted but those of a
+        fact."""
         facts = {without_places(atom): atom for atom in atoms if self.kind_of(atom) == "fact"}
         counted = [atom for atom in atoms if self.kind_of(atom) != "fact"] + list(facts.values())
         return len(counted) > MOST_COPIES or sum(written_nodes(atom) for atom in counted) > MOST_STATE_NODES

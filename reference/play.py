@@ -1,7 +1,6 @@
 """Playing: FORMATS, The command to What the seed draws, and Rounds; MODEL, A run, A choice and Dialogues in rounds."""
 from typing import List, NamedTuple, Optional, Tuple, Union
 
-from reference.derive import Derivation
 from reference.program import Program, State
 from reference.steps import Machine, Offer, contained
 from reference.texts import Texts, number_of
@@ -42,7 +41,8 @@ class Typed:
         self.text, self.taken = text, 0
 
     def line(self) -> Union[str, Tuple[str]]:
-        """The next line, or in a tuple the end word: `input` if nothing more comes, `typed` if no further byte may be taken."""
+        """The next line, or in a tuple the end word: `input` if nothing more comes, `typed` if no further byte may be
+        taken."""
         left = self.text[self.taken:]
         end = left.find("\n") + 1
         if MOST_TYPED - self.taken < (end or len(left) + 1):
@@ -73,7 +73,7 @@ class Run:
         self.texts, self.seed, self.typed = Texts(program), Seed(settings.seed), Typed(typed)
         self.stage, self.state = program.stage, program.state
         self.turns = self.offered = 0
-        self.lines = ["ceptre 2", f"height {settings.height}", f"stage {program.stages[self.stage]}"] + self.texts.listing(self.state)
+        self.lines = self.texts.header(settings.height, self.stage, self.state)
 
     def play(self) -> str:
         """Turn by turn to the end, and the end word."""
@@ -85,7 +85,8 @@ class Run:
             return end.word
 
     def turn(self) -> None:
-        """MODEL, A run: a question and a step, or a round, unless the run ends in quiet, by its turns or by too many offers."""
+        """MODEL, A run: a question and a step, or a round, unless the run ends in quiet, by its turns or by too many
+        offers."""
         group, offers = self.machine.asked(self.stage, self.state)
         own, interactive = group == 2 * self.stage, self.stage in self.program.interactive
         if not offers:
@@ -121,11 +122,11 @@ class Run:
         passed = self.machine.passed(self.state, offer)
         if passed:
             raise Ended(passed)
-        proofs = [self.machine.backward.canonical(atom, self.settings.height) for atom in self.machine.asked_atoms(offer)]
+        atoms = self.machine.asked_atoms(offer)
+        proofs = [self.machine.backward.canonical(atom, self.settings.height) for atom in atoms]
         self.state, self.stage = self.machine.after(self.state, offer), self.machine.next_stage(self.stage, offer)
         self.turns += 1
-        leads = self.program.rules[offer.rule].leads
-        self.lines += step_lines(self.texts, offer, proofs, leads, self.state if self.turns % 100 == 0 else None, self.turns)
+        self.lines += self.texts.step(offer, proofs, self.program.rules[offer.rule].leads, self.state, self.turns)
 
     def round(self, offers: List[Offer], players: int) -> None:
         """FORMATS, Rounds: all players choose at once, and who is admitted does so in order of the players."""
@@ -145,23 +146,17 @@ class Run:
             self.do(offer)
 
 
-def step_lines(texts: Texts, offer: Offer, proofs: List[Derivation], leads: Optional[int], state: Optional[State], number: int) -> List[str]:
-    """FORMATS, The transcript: the lines of a step."""
-    lines = [f"step {texts.offer(offer)}"] + [f"by {texts.proof(proof)}" for proof in proofs]
-    lines += [] if leads is None else [f"stage {texts.program.stages[leads]}"]
-    return lines + ([] if state is None else [f"state {number}"] + texts.listing(state))
-
-
 def world_text(rooms: int) -> str:
     """FORMATS, A generated world: its text."""
     walkers = 1 + rooms // 100
     lines = ["room : type.", "walker : type.", "good : type."]
     lines += [f"r{i} : room." for i in range(rooms)] + [f"w{i} : walker." for i in range(walkers)]
     lines += [f"g{i} : good." for i in range(rooms)]
-    lines += ["link room room : pred.", "at walker room : pred.", "lies good room : pred.", "holds walker good : pred.",
-              "food walker : pred.", "stage main = {", "move : at W R * $link R S * food W -o at W S.",
-              "grab : $at W R * lies G R -o holds W G.", "}", "stage rest = {", "eat : holds W G -o food W * food W.", "}",
-              "qui * stage main -o stage rest.", "qui * stage rest * $food W -o stage main.", "context start = {"]
+    lines += ["link room room : pred.", "at walker room : pred.", "lies good room : pred.",
+              "holds walker good : pred.", "food walker : pred.", "stage main = {",
+              "move : at W R * $link R S * food W -o at W S.", "grab : $at W R * lies G R -o holds W G.", "}",
+              "stage rest = {", "eat : holds W G -o food W * food W.", "}", "qui * stage main -o stage rest.",
+              "qui * stage rest * $food W -o stage main.", "context start = {"]
     atoms = [f"link r{i} r{goal % rooms}" for i in range(rooms) for goal in (i + 1, 7 * i + 3)]
     for i in range(walkers):
         atoms += [f"at w{i} r{11 * i % rooms}"] + [f"food w{i}"] * 3

@@ -68,7 +68,8 @@ class Program(NamedTuple):
 
 
 class Scope:
-    """The variables of a rule or a clause, numbered as they first occur, and what is wrong with types and variables in it."""
+    """The variables of a rule or a clause, numbered as they first occur, and what is wrong with types and variables in
+    it."""
 
     def __init__(self, names: Names, types: "Types", faults: List[Tuple[int, int, int]]) -> None:
         self.names, self.types, self.faults = names, types, faults
@@ -78,8 +79,8 @@ class Scope:
         self.closed = False
 
     def variable(self, term: Raw, wanted: int) -> int:
-        """LANGUAGE, Names, variables and types: a variable has the type that is wanted where it first occurs, and `_` is one of its
-        own. On a right side a variable that the left side has not, or a `_`, is Unbound."""
+        """LANGUAGE, Names, variables and types: a variable has the type that is wanted where it first occurs, and `_`
+        is one of its own. On a right side a variable that the left side has not, or a `_`, is Unbound."""
         name = term.name
         if term.kind == "Blank":
             self.blanks += 1
@@ -105,12 +106,16 @@ class Scope:
         number = self.names.first["constructor"][raw.name]
         if self.types.constructors[number].type != wanted:
             self.faults.append((5, raw.at, 9))
-        return (number,) + tuple([self.term(arg, want) for arg, want in zip(raw.args, self.types.constructors[number].args)])
+        return (number,) + self.arguments(raw, self.types.constructors[number].args)
 
     def atom(self, raw: Raw) -> Node:
         """An atom, with terms of the types that its predicate declares."""
         number = self.names.first["predicate"][raw.name]
-        return (number,) + tuple([self.term(arg, want) for arg, want in zip(raw.args, self.types.predicates[number].args)])
+        return (number,) + self.arguments(raw, self.types.predicates[number].args)
+
+    def arguments(self, raw: Raw, wanted: Tuple[int, ...]) -> Node:
+        """The arguments, each of the type that is wanted."""
+        return tuple([self.term(arg, want) for arg, want in zip(raw.args, wanted)])
 
 
 class Types:
@@ -118,15 +123,16 @@ class Types:
 
     def __init__(self, names: Names) -> None:
         numbers = names.first["type"]
-        self.constructors = [Constructor(each.name.text, tuple(numbers[arg.text] for arg in each.args), numbers[each.type.text])
-                             for each in names.constructors if each.type]
+        self.constructors = [Constructor(each.name.text, tuple(numbers[arg.text] for arg in each.args),
+                                         numbers[each.type.text]) for each in names.constructors if each.type]
         self.predicates = [Predicate(each.name.text, each.kind, tuple(numbers[arg.text] for arg in each.args))
                            for each in names.predicates]
 
 
 def accept(text: str) -> Program:
-    """LANGUAGE, What is refused: the program that a text spells, or `Refused` for the first fault of the earliest phase: the length,
-    the tokens, the grammar; the names; the types; the variables of right sides; and the backward premises."""
+    """LANGUAGE, What is refused: the program that a text spells, or `Refused` for the first fault of the earliest
+    phase: the length, the tokens, the grammar; the names; the types; the variables of right sides; and the backward
+    premises."""
     names = Names(Parser(text).file(), len(text))
     names.check()
     types = Types(names)
@@ -144,8 +150,8 @@ def accept(text: str) -> Program:
     atoms = [Scope(names, types, faults).atom(raw) for raw in names.start_atoms(trace)]
     state = {atom: 1 if types.predicates[atom[0]].kind == "fact" else copies for atom, copies in Counter(atoms).items()}
     program = Program(names.types, types.constructors, types.predicates, [stage.name.text for stage in names.stages],
-                      {numbers[token.text] for token in names.interactive}, rules, clauses, numbers[trace.stage.text], state,
-                      turns_of(trace.number) if trace.number else None)
+                      {numbers[token.text] for token in names.interactive}, rules, clauses, numbers[trace.stage.text],
+                      state, turns_of(trace.number) if trace.number else None)
     refuse_ungrounded(program, [raw for raw, _, _ in names.rules])
     return program
 
@@ -161,7 +167,8 @@ def rule_of(raw: RawRule, name: str, stage: Optional[int], scope: Scope) -> Rule
     numbers = scope.names.first["stage"]
     group = 2 * stage if stage is not None else 2 * numbers[raw.leaves[0].text] + 1
     leads = numbers[raw.leads[0].text] if stage is None else None
-    return Rule(name, group, [atom for atom, _ in met], [kept for _, kept in met], backward, right, scope.variables, leads)
+    premises, kept = [atom for atom, _ in met], [kept for _, kept in met]
+    return Rule(name, group, premises, kept, backward, right, scope.variables, leads)
 
 
 def clause_of(raws: List[Raw], scope: Scope) -> Clause:
@@ -174,7 +181,8 @@ Pair = Tuple[int, FrozenSet[int]]
 
 
 def refuse_ungrounded(program: Program, raws: List[RawRule]) -> None:
-    """LANGUAGE, Backward predicates, What is known: a rule is refused at its first backward premise that calls a bad pair."""
+    """LANGUAGE, Backward predicates, What is known: a rule is refused at its first backward premise that calls a bad
+    pair."""
     bad = bad_pairs(program)
     for rule, raw in zip(program.rules, raws):
         known = known_variables(rule.premises)
@@ -201,8 +209,8 @@ def called(goal: Node, known: Set[int]) -> Pair:
 
 
 def bad_pairs(program: Program) -> Set[Pair]:
-    """MODEL, Groundness, by rounds: no pair is bad in round 0, and in the next those of which some clause calls a bad pair, or leaves a
-    variable of its head unknown."""
+    """MODEL, Groundness, by rounds: no pair is bad in round 0, and in the next those of which some clause calls a bad
+    pair, or leaves a variable of its head unknown."""
     pairs = [(number, frozenset(some)) for number, predicate in enumerate(program.predicates) if predicate.kind == "bwd"
              for length in range(len(predicate.args) + 1) for some in combinations(range(len(predicate.args)), length)]
     bad: Set[Pair] = set()

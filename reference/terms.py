@@ -1,7 +1,8 @@
 """Terms, atoms, their order and their texts (LANGUAGE, What a world is; FORMATS, Terms, atoms and offers).
 
-A term is a variable's number, or a tuple: its constructor's number, and its arguments. An atom is such a tuple with a predicate's number.
-So tuples compare as FORMATS orders terms and atoms: by the head's number, and then by the arguments from left to right.
+A term is a variable's number, or a tuple: its constructor's number, and its arguments. An atom is such a tuple with a
+predicate's number. So tuples compare as FORMATS orders terms and atoms: by the head's number, and then by the arguments
+from left to right.
 """
 from typing import Any, Dict, NamedTuple, Optional, Sequence, Tuple, Union
 
@@ -18,8 +19,8 @@ class Sized(NamedTuple):
 
 
 def size(term: Term) -> Sized:
-    """LANGUAGE, What is refused: a node for each constructor and variable, an atom one more for its predicate; the depth is 1 without
-    arguments, and else 1 more than the deepest argument."""
+    """LANGUAGE, What is refused: a node for each constructor and variable, an atom one more for its predicate; the
+    depth is 1 without arguments, and else 1 more than the deepest argument."""
     if isinstance(term, int):
         return Sized(1, 1)
     nodes, depth = 1, 0

@@ -45,12 +45,23 @@ class Texts:
     def proof(self, proof: Derivation) -> str:
         """The clause's number counted from 1, the values, and the goals' derivations, in brackets."""
         variables = self.program.clauses[proof.clause].variables
-        parts = [str(proof.clause + 1)] + self.values(variables, proof.values) + [self.proof(goal) for goal in proof.goals]
-        return f"[{' '.join(parts)}]"
+        goals = [self.proof(goal) for goal in proof.goals]
+        return f"[{' '.join([str(proof.clause + 1)] + self.values(variables, proof.values) + goals)}]"
 
     def listing(self, state: State) -> List[str]:
         """One line for each atom that is there, in order, with its copies."""
         return [f"have {copies} {self.atom(atom)}" for atom, copies in sorted(state.items())]
+
+    def header(self, height: int, stage: int, state: State) -> List[str]:
+        """FORMATS, The transcript: the lines with which one begins."""
+        return ["ceptre 2", f"height {height}", f"stage {self.program.stages[stage]}"] + self.listing(state)
+
+    def step(self, offer: Offer, proofs: List[Derivation], leads: Optional[int], state: State,
+             number: int) -> List[str]:
+        """The lines of a step of this number, and after each hundredth the listing of the state."""
+        lines = [f"step {self.offer(offer)}"] + [f"by {self.proof(proof)}" for proof in proofs]
+        lines += [] if leads is None else [f"stage {self.program.stages[leads]}"]
+        return lines + ([f"state {number}"] + self.listing(state) if number % 100 == 0 else [])
 
 
 class Misread(Exception):
@@ -62,7 +73,7 @@ class Reader:
 
     def __init__(self, program: Program, text: str) -> None:
         self.program = program
-        self.parts = PART.findall(text)
+        self.parts: List[str] = PART.findall(text)
         self.next = 0
 
     def take(self, wanted: Optional[str] = None) -> str:
@@ -70,7 +81,7 @@ class Reader:
         if self.next >= len(self.parts) or wanted not in (None, self.parts[self.next]):
             raise Misread
         self.next += 1
-        return str(self.parts[self.next - 1])
+        return self.parts[self.next - 1]
 
     def ends(self) -> None:
         """Nothing more stands there."""
@@ -134,7 +145,8 @@ class Reader:
         return Offer(number, self.values(self.program.rules[number].variables))
 
     def proof(self, opened: int = 1) -> Derivation:
-        """A derivation, with at most 512 brackets open at once: a clause, its values, and one derivation for each goal."""
+        """A derivation, with at most 512 brackets open at once: a clause, its values, and one derivation for each
+        goal."""
         self.take("[")
         number = number_of(self.take(), 1, len(self.program.clauses))
         if opened > 512 or number is None:
@@ -146,4 +158,3 @@ class Reader:
             goals.append(self.proof(opened + 1))
         self.take("]")
         return Derivation(number - 1, values, tuple(goals))
-

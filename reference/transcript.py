@@ -3,7 +3,6 @@ from dataclasses import dataclass, field
 from typing import Callable, List, Optional, Tuple, TypeVar
 
 from reference.derive import Derivation
-from reference.play import step_lines
 from reference.program import Program, State
 from reference.steps import Offer
 from reference.terms import MOST_COPIES
@@ -53,7 +52,8 @@ class Log:
 
 
 def lines_of(text: str) -> List[Tuple[int, str]]:
-    """FORMATS, The grammar of what is read: the lines by their numbers. A last line without a line feed keeps its carriage return."""
+    """FORMATS, The grammar of what is read: the lines by their numbers. A last line without a line feed keeps its
+    carriage return."""
     lines = text.split("\n")
     ended = [line[:-1] if line.endswith("\r") else line for line in lines[:-1]] + lines[-1:]
     return list(enumerate(ended if lines[-1] else ended[:-1], 1))
@@ -141,8 +141,8 @@ class LogReader:
         return log
 
     def step(self, log: Log) -> None:
-        """A step, with as many derivations as its rule has backward premises, a stage if and only if its rule leaves one, and in version 2
-        a listing after each hundredth."""
+        """A step, with as many derivations as its rule has backward premises, a stage if and only if its rule leaves
+        one, and in version 2 a listing after each hundredth."""
         line, text = self.line(), self.take("step")
         if text.split(" ")[0] not in [rule.name for rule in self.program.rules]:
             raise Unread(line, "NoRule")
@@ -162,11 +162,11 @@ class LogReader:
 
 
 def log_text(program: Program, log: Log, steps: List[Step], states: List[State]) -> str:
-    """FORMATS, What is reported of a transcript: a legal one in version 2, without the conversation, with these steps and the states
-    after them."""
+    """FORMATS, What is reported of a transcript: a legal one in version 2, without the conversation, with these steps
+    and the states after them."""
     texts = Texts(program)
-    lines = ["ceptre 2", f"height {log.height}", f"stage {program.stages[log.stage]}"] + texts.listing(log.start.state)
+    lines = texts.header(log.height, log.stage, log.start.state)
     for number, (step, state) in enumerate(zip(steps, states), 1):
-        lines += step_lines(texts, step.offer, step.proofs, step.stage, state if number % 100 == 0 else None, number)
+        lines += texts.step(step.offer, step.proofs, step.stage, state, number)
     lines += [f"end {log.word}"] + texts.listing(log.end.state if log.end else {})
     return "".join([line + "\n" for line in lines])
