@@ -223,8 +223,11 @@ class Strange(Folder):
     def test_a_pipe(self):
         path = os.path.join(self.folder, "pipe.log")
         os.mkfifo(path)
-        with subprocess.Popen(["cp", os.path.join(WORLDS, "castle.log"), path]):
-            status, output, _ = called("grade", CASTLE, path)
+        with subprocess.Popen(["cp", os.path.join(WORLDS, "castle.log"), path]) as writer:
+            try:
+                status, output, _ = called("grade", CASTLE, path)
+            finally:
+                writer.kill()  # If nobody read the pipe it would wait for ever.
         self.assertEqual((status, rows(output)[0]["verdict"]), (0, "accepted"))
         script = f"{TOOLS}/grade <(cat {CASTLE}) <(cat {CASTLE_LOG})"
         done = subprocess.run(["bash", "-c", script], cwd=TOP, stdout=subprocess.PIPE, check=False)
