@@ -13,6 +13,7 @@ WORDS = {
     "player": "worlds/apple.cep",
     "replay": "worlds/apple.cep worlds/apple.log",
     "sample": "worlds/apple.cep --runs 2",
+    "solve": "worlds/lock.cep --goal open",
     "why": "worlds/apple.cep worlds/apple.log 0 eat",
 }
 
