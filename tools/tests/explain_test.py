@@ -278,7 +278,7 @@ context none = { p c }.
             self.assertEqual(status, 0)
             self.assertTrue(output.startswith(f"{file.name}: accepted\n{file.name}:2:1: hint: "))
             status, output, _ = tool("explain", "--hints", file.name)
-            self.assertEqual((status, len(output.splitlines())), (1, 11))
+            self.assertEqual((status, len(output.splitlines())), (1, 13), "two of them are rules that can never apply")
             _, output, _ = tool("explain", "--format=gcc", file.name)
             self.assertIn(":2:1: warning: `u` is never used\n", output)
         self.assertEqual(tool("explain", "--hints", "worlds/manor.cep"), (0, "", ""))

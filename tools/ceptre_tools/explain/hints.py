@@ -5,6 +5,7 @@ from collections import Counter
 from collections.abc import Iterator
 from typing import NamedTuple
 
+from ceptre_tools.explain.doubts import doubts
 from ceptre_tools.items import Item, Rule
 from ceptre_tools.play.prose import Prose
 from ceptre_tools.text import shown
@@ -109,6 +110,7 @@ def hints(text: str) -> list[Hint]:
     """The hints for a text that is accepted, in the order of their places."""
     world = World(text)
     found = [*unused_predicates(world), *unused_things(world), *unreached_stages(world), *faulty_templates(world)]
+    found += [Hint.at(doubt.token, doubt.name, doubt.said) for doubt in doubts(world)]
     for item in world.parts():
         if item.kind in ("rule", "clause"):
             found += single_variables(item)

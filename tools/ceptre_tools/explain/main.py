@@ -3,9 +3,10 @@
 from argparse import Namespace
 
 from ceptre_tools.explain import report
+from ceptre_tools.explain.dead import dead_rules
 from ceptre_tools.explain.hints import goals, hints
 from ceptre_tools.explain.refusal import Refusal, refusals
-from ceptre_tools.program import MOST_LOG, MOST_WORLD, opened, refusal
+from ceptre_tools.program import MOST_LOG, MOST_WORLD, opened, refusal, run
 from ceptre_tools.terminal import script
 from ceptre_tools.text import printable
 
@@ -26,10 +27,13 @@ def explained_world(words: Namespace, path: str, text: str, line: str) -> list[s
     return said
 
 
-def hinted(words: Namespace, path: str, text: str) -> list[str]:
+def hinted(words: Namespace, path: str, text: str, world: str) -> list[str]:
     """The lines about a world that is accepted."""
     word = " warning:" if words.format == "gcc" else " hint:"
     said = [f"{path}:{hint.line}:{hint.column}:{word} {hint.said}" for hint in hints(text)]
+    for rule, why in dead_rules(text, run("dead", world)):
+        token = rule.label or rule.source[rule.first]
+        said.append(f"{path}:{token.line}:{token.column}:{word} `{rule.name}` can never apply: {why}")
     if words.hints or words.format == "gcc":
         return said
     made = ", ".join(goals(text))
@@ -56,7 +60,7 @@ def explain(words: Namespace) -> int:
         elif words.log:
             accepted, said = explained_log(words, readable)
         else:
-            said = hinted(words, path, text)
+            said = hinted(words, path, text, readable)
             accepted = not (words.hints and said)
     if said:
         print("\n".join(said))

@@ -4,13 +4,11 @@ from __future__ import annotations
 
 import re
 from itertools import accumulate
-from typing import Iterator, NamedTuple, Optional
+from typing import NamedTuple, Optional
 
+from ceptre_tools.explain.dead import dead_rules
 from ceptre_tools.explain.hints import Hint, hints
 from ceptre_tools.explain.refusal import reasons, refusals
-from ceptre_tools.items import Rule
-from ceptre_tools.program import DONE
-from ceptre_tools.world import World
 
 from .asking import Asker
 from .documents import place_in
@@ -150,7 +148,7 @@ def of_accepted(text: str, asker: Asker) -> Findings:
     shown = hints(text)[:MOST_HINTS]
     found = [of_hint(text, starts[hint.line - 1] + hint.column - 1, hint) for hint in shown]
     dead = {}
-    for rule, why in dead_rules(text, asker):
+    for rule, why in dead_rules(text, asker.run("dead", asker.written(text, "asked.cep"))):
         token = rule.label or rule.source[rule.first]
         dead[rule.name] = why
         found.append(Finding(token.start, token.end, WARNING, "dead", f"`{rule.name}` can never apply: {why}"))
@@ -169,27 +167,3 @@ def of_hint(text: str, start: int, hint: Hint) -> Finding:
         fixes.insert(0, Fix("Write `_`: any will do", (Edit(start, end, "_"),)))
     faded = hint.name in FADED
     return Finding(start, end, HINT if faded else WARNING, hint.name, hint.said, tuple(fixes), faded)
-
-
-def dead_rules(text: str, asker: Asker) -> Iterator[tuple[Rule, str]]:
-    """The rules that can never apply, each with why."""
-    answer = asker.run("dead", asker.written(text, "asked.cep"))
-    lines = [line.split() for line in answer.lines if answer.status == DONE]
-    named = [words for words in lines if len(words) == 4]
-    rules = World(text).rules if named else {}
-    for _, name, kind, what in named:
-        if name in rules:
-            yield rules[name], why_dead(rules[name], kind, what)
-
-
-def why_dead(rule: Rule, kind: str, what: str) -> str:
-    """Why a rule can never apply, by what the program names."""
-    if kind == "stage":
-        return f"the stage `{what}` is never reached"
-    if kind == "var":
-        return f"no value of `{what}` fits all places where it stands"
-    premises = [premise for premise in rule.premises if rule.role(premise) != "asked"]
-    premises += [premise for premise in rule.premises if rule.role(premise) == "asked"]
-    number = int(what)
-    said = premises[number - 1].term.bare({}) if number <= len(premises) else what
-    return f"nothing ever makes its premise `{said}` hold"
