@@ -137,7 +137,7 @@ def compared(asked: Asked, seed: int, count: int, seconds: float) -> Tuple[Count
 def main() -> int:
     """compare [--cases N] [--seed S] [--seconds T] [--histogram] [PROGRAM]"""
     parser = argparse.ArgumentParser(prog="compare", description=__doc__)
-    parser.add_argument("--cases", type=int, default=10 ** 9, help="how many cases: 1,000, or as many as there is time for")
+    parser.add_argument("--cases", type=int, default=10 ** 9, help="how many cases, if not 1,000")
     parser.add_argument("--seed", type=int, default=1, help="the seed of the first case; each further one has the next")
     parser.add_argument("--seconds", type=float, default=0, help="seconds of the processor after which it stops")
     parser.add_argument("--histogram", action="store_true", help="what was drawn")

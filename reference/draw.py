@@ -72,9 +72,9 @@ class World:
             self.items += [f"e {draw.choice('abc')} {draw.choice('abc')}." for _ in range(draw.randint(1, 4))]
             if draw.random() < 0.6:
                 self.declare("w", "bwd", ["t", "t"])
-                clauses: List[str] = ["w X Y <- e X Y.", draw.choice(("w X Z <- e X Y <- w Y Z.", "w X Z <- w X Y, e Y Z.",
-                                                          "k : w X Y <- e Y X.", "w X X.", "w X Y <- w Y X."))]
-                self.items += draw.sample(clauses, 2)
+                others = ("w X Z <- e X Y <- w Y Z.", "w X Z <- w X Y, e Y Z.", "k : w X Y <- e Y X.", "w X X.",
+                          "w X Y <- w Y X.")
+                self.items += draw.sample(["w X Y <- e X Y.", str(draw.choice(others))], 2)
         if draw.random() < 0.4 and len(self.constructors["u"]) > 1:
             self.declare("n", "bwd", ["u", "u"])
             step = "s" if self.constructors["u"][1][0] == "s" else "f z"
@@ -107,7 +107,8 @@ class World:
         """The sides of a rule."""
         draw = self.draw
         scope: Dict[str, str] = {}
-        left = [draw.choice(("", "", "$")) + self.atom(scope, ("pred", "fact"), True) for _ in range(draw.randint(0, 3))]
+        left = [draw.choice(("", "", "$")) + self.atom(scope, ("pred", "fact"), True)
+                for _ in range(draw.randint(0, 3))]
         for _ in range(draw.choice((0, 0, 1, 2))):
             left.insert(draw.randint(0, len(left)), self.atom(scope, ("bwd",), draw.random() < 0.5))
         right = [self.atom(scope, ("pred", "fact"), False) for _ in range(draw.choice((0, 1, 1, 2, 3)))]
@@ -200,7 +201,8 @@ def wrong_log(draw: random.Random, log: str) -> str:
         lines[at] = re.sub(r"\b(\d+|a|b|main|rest|over|z|init)\b", other, lines[at], count=1)
     else:
         record, returns = [line for line in lines if line[0] != "?"], [line.replace("\n", "\r\n") for line in lines]
-        lines = draw.choice((returns, record, lines[:-1], lines[:1] + lines[2:], ["ceptre 1\n"] + lines[1:], lines + ["\n"]))
+        first = ["ceptre 1\n"] + lines[1:]
+        lines = draw.choice((returns, record, lines[:-1], lines[:1] + lines[2:], first, lines + ["\n"]))
     return "".join(lines)
 
 
@@ -238,7 +240,8 @@ def drawn(seed: int) -> Drawn:
     world = World(draw)
     text = wrong_text(draw, world.items) if draw.random() < 0.2 else "\n".join(world.items) + "\n"
     typed = lines_typed(draw)
-    command = draw.choice(("play",) * 6 + ("check",) * 5 + ("rounds", "cause", "again", "weigh", "dead") * 2 + ("renew",))
+    twice = ("rounds", "cause", "again", "weigh", "dead") * 2
+    command = draw.choice(("play",) * 6 + ("check",) * 5 + twice + ("renew",))
     if command in ("play", "rounds", "dead"):
         return Drawn([command, "f"] + options(draw, FORMS[command][1]), {"f": text}, typed)
     if command == "weigh":

@@ -10,17 +10,17 @@ import shutil
 import subprocess
 import sys
 import tempfile
-from typing import Iterator, List, Optional, Tuple
+from typing import Any, Dict, Iterator, List, Optional, Tuple
 
 from reference.command import Answer, deep
 from reference.compare import of_reference
 from reference.draw import Drawn, drawn
 
-MODULES = ("grammar", "names", "program", "terms", "derive", "steps", "texts", "play", "transcript", "check", "claims", "dead",
-           "command")
-TURNED = {ast.Lt: ast.LtE, ast.LtE: ast.Lt, ast.Gt: ast.GtE, ast.GtE: ast.Gt, ast.Eq: ast.NotEq, ast.NotEq: ast.Eq,
-          ast.In: ast.NotIn, ast.NotIn: ast.In, ast.Is: ast.IsNot, ast.IsNot: ast.Is, ast.And: ast.Or, ast.Or: ast.And,
-          ast.Add: ast.Sub, ast.Sub: ast.Add, ast.BitAnd: ast.BitOr, ast.BitOr: ast.BitAnd}
+MODULES = "grammar names program terms derive steps texts play transcript check claims dead command".split()
+TURNED: Dict[type, Any] = {
+    ast.Lt: ast.LtE, ast.LtE: ast.Lt, ast.Gt: ast.GtE, ast.GtE: ast.Gt, ast.Eq: ast.NotEq, ast.NotEq: ast.Eq,
+    ast.In: ast.NotIn, ast.NotIn: ast.In, ast.Is: ast.IsNot, ast.IsNot: ast.Is, ast.And: ast.Or, ast.Or: ast.And,
+    ast.Add: ast.Sub, ast.Sub: ast.Add, ast.BitAnd: ast.BitOr, ast.BitOr: ast.BitAnd}
 ORDERS = {"min": "max", "max": "min", "any": "all", "all": "any", "sorted": "list"}
 
 
@@ -91,8 +91,8 @@ def is_told(folder: str, module: str, text: str, expected: str) -> bool:
         with open(os.path.join(place, "reference", module + ".py"), "w", encoding="utf-8") as file:
             file.write(text)
         try:
-            ran = subprocess.run([sys.executable, "-m", "reference.mutate", "--expected", expected], cwd=place, timeout=300,
-                                 stdout=subprocess.DEVNULL, stderr=subprocess.DEVNULL, check=False)
+            ran = subprocess.run([sys.executable, "-m", "reference.mutate", "--expected", expected], cwd=place,
+                                 timeout=300, stdout=subprocess.DEVNULL, stderr=subprocess.DEVNULL, check=False)
         except subprocess.TimeoutExpired:
             return True
     return ran.returncode != 0

@@ -9,8 +9,8 @@ USES = "t : type. c : t. f t t : t. s t : t. p t : pred. a : pred. b : pred.\n"
 
 def words(draw: random.Random) -> Odd:
     """Words that have no form, or nearly none."""
-    some = ("play check world f g seed=1 seed=01 seed= height=0 height=512 turns=1 turns=1000001 players=1 players=2 17 "
-            "rounds dead again renew").split()
+    some = ("play check world f g seed=1 seed=01 seed= height=0 height=512 turns=1 turns=1000001 players=1 players=2 "
+            "17 rounds dead again renew").split()
     return [draw.choice(some) for _ in range(draw.randint(0, 4))], {"f": SMALL, "g": "ceptre 2\n"}, "1\n"
 
 
@@ -127,7 +127,8 @@ def stage_lines(draw: random.Random) -> Odd:
     text = ("a : pred. b : pred.\nstage one = { r : a -o b. }\nstage two = { o : b -o a. }\n"
             "go : qui * stage one -o stage two.\n#trace _ one { a }.\n")
     steps = draw.choice(("step r\nstep go\nstage {}\n", "step r\nstep go\nstage {}\nstep o\n", "step go\nstage {}\n",
-                         "step o\n", "step r\nstep o\n", "step none\n")).format(draw.choice(("two", "two", "one", "none")))
+                         "step o\n", "step r\nstep o\n", "step none\n"))
+    steps = steps.format(draw.choice(("two", "two", "one", "none")))
     start, end = draw.choice(("one", "one", "one", "two")), draw.choice(("quiet", "turns"))
     log = f"ceptre 2\nheight 9\nstage {start}\nhave 1 a\n{steps}end {end}\n"
     return [draw.choice(("check", "renew")), "f", "g"], {"f": text, "g": log + f"have 1 {draw.choice('ab')}\n"}, ""
