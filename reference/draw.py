@@ -11,6 +11,7 @@ from reference.odd import ODD
 MOST_WORK = 150_000
 TOKENS = ("a b p q r t u main rest X Y _ 7 : . , * $ = ( ) { } -o <- type pred bwd fact stage context qui #trace "
           "#interactive #foo ; - %").split()
+WRONG_WORDS = ["0", "01", "99", "(s z)", "nothing", "(s", "(z)"]
 SLIPS = (
     "context bad = { y X }. y t : pred.", "context bad = { y a }. y t : bwd.", "bad : () -o y X. y t : pred.",
     "stage bad = { x : y _ -o y _. } y t : pred.", "stage bad = { x : y X -o y X * y Z. } y t : pred.", "y Z.",
@@ -188,7 +189,8 @@ def wrong_log(draw: random.Random, log: str) -> str:
             del lines[place]
     elif chance < 0.45:
         words = lines[place].rstrip("\n").split(" ")
-        words[draw.randrange(len(words))] = draw.choice(" ".join(lines).split() + ["0", "01", "99", "(s z)", "nothing"])
+        at = draw.randrange(len(words) + 1)
+        words[at:at + draw.randint(0, 1)] = [draw.choice(" ".join(lines).split() + WRONG_WORDS)]
         lines[place] = " ".join(words) + "\n"
     elif chance < 0.6:
         lines[1:2] = [f"height {draw.choice((1, 2, 3, 512, 513, 0, 128))}\n"]

@@ -11,7 +11,11 @@ def words(draw: random.Random) -> Odd:
     """Words that have no form, or nearly none."""
     some = ("play check world f g seed=1 seed=01 seed= height=0 height=512 turns=1 turns=1000001 players=1 players=2 "
             "17 rounds dead again renew").split()
-    return [draw.choice(some) for _ in range(draw.randint(0, 4))], {"f": SMALL, "g": "ceptre 2\n"}, "1\n"
+    said = [draw.choice(some) for _ in range(draw.randint(0, 4))]
+    if draw.random() < 0.7:
+        command = draw.choice(("play f", "check f g", "world 2", "again f g", "rounds f players=2", "dead f"))
+        said = command.split() + [draw.choice(some) for _ in range(draw.randint(0, 2))]
+    return said, {"f": SMALL, "g": "ceptre 2\n"}, "1\n"
 
 
 def missing(draw: random.Random) -> Odd:
@@ -61,7 +65,7 @@ def long_text(draw: random.Random) -> Odd:
 
 def full_state(draw: random.Random) -> Odd:
     """A state of nearly the most copies, which a step may fill, played or with a transcript of that step."""
-    count = draw.choice((99_998, 99_999, 100_000, 100_001))
+    count = draw.choice((99_998, 100_000, 100_000, 100_001))
     start = ", ".join(["k"] * (count // 1000) + ["b"] * (count % 1000 - 1) + ["a"])
     text = (f"{USES}stage main = {{ r : a -o a * b. }}\ncontext k = {{ {', '.join(['b'] * 1000)} }}\n"
             f"#trace 4 main {{ {start} }}.\n")
@@ -76,7 +80,7 @@ def large_atom(draw: random.Random) -> Odd:
     if draw.random() < 0.5:
         text = f"{USES}stage main = {{ r : p X -o p (f X X). }}\n#trace 17 main {{ p (f (f (f c c) c) c) }}.\n"
         return ["play", "f"], {"f": text}, ""
-    deep = draw.choice((508, 509, 510, 511))
+    deep = draw.choice((509, 510, 510, 511))
     term = "(s " * deep + "c" + ")" * deep
     text = f"{USES}stage main = {{ r : p X -o p (s X). }}\n#trace _ main {{ p {term} }}.\n"
     log = f"ceptre 2\nheight 128\nstage main\nhave 1 p {term}\nstep r X={term}\nend atom\nhave 1 p (s {term})\n"
@@ -85,10 +89,11 @@ def large_atom(draw: random.Random) -> Odd:
 
 def many_offers(draw: random.Random) -> Odd:
     """As many offers as a turn may have, or more."""
-    count = draw.choice((9, 256, 257, 257))
+    count = draw.choice((9, 256, 256, 257))
     text = "t : type. p t : pred. q t : pred.\n" + "".join([f"c{i} : t.\n" for i in range(count)])
-    atoms = ", ".join([f"p c{i}, q c{i}" for i in range(count)])
-    return ["play", "f"], {"f": f"{text}stage main = {{ r : $p X * $q Y -o (). }}\n#trace 1 main {{ {atoms} }}.\n"}, ""
+    atoms = ", ".join([f"p c{i}, q c{i}" for i in range(count)] + ["n"] * (count == 256 and draw.random() < 0.5))
+    rules = "stage main = { r : $p X * $q Y -o (). o : $n -o (). }\nn : pred.\n"
+    return ["play", "f"], {"f": f"{text}{rules}#trace 1 main {{ {atoms} }}.\n"}, ""
 
 
 def much_typed(draw: random.Random) -> Odd:
@@ -104,8 +109,19 @@ def long_run(draw: random.Random) -> Odd:
     lines = "step r\n" * min(steps, 100) + middle * (steps >= 100) + "step r\n" * max(steps - 100, 0)
     end = "state 200\nhave 1 a\nhave 200 b\n" * (steps == 200) + f"end turns\nhave 1 a\nhave {steps} b\n"
     log = f"ceptre {draw.choice('221')}\nheight 128\nstage main\nhave 1 a\n{lines}{end}"
-    asked = draw.choice((["check", "f", "g"], ["renew", "f", "g"], ["play", "f", f"turns={steps}"]))
+    asked = draw.choice((["check", "f", "g"], ["renew", "f", "g"], ["play", "f", f"turns={steps}"], ["play", "f"]))
     return asked, {"f": text, "g": log}, ""
+
+
+def full_order(draw: random.Random) -> Odd:
+    """A transcript of which another order leads to a state over the limit."""
+    count = draw.choice((99_982, 99_983))
+    text = (f"{USES}stage main = {{ less : {' * '.join(['p c'] * 16)} -o (). more : a -o {' * '.join(['b'] * 17)}. }}\n"
+            f"context k = {{ {', '.join(['b'] * 1000)} }}\n"
+            f"#trace 2 main {{ {', '.join(['k'] * 99 + ['b'] * (count - 99_000) + ['p c'] * 16 + ['a'])} }}.\n")
+    log = (f"ceptre 2\nheight 128\nstage main\nhave 16 p c\nhave 1 a\nhave {count} b\nstep less\nstep more\n"
+           f"end turns\nhave {count + 17} b\n")
+    return ["again", "f", "g", f"seed={draw.randint(1, 9)}"], {"f": text, "g": log}, ""
 
 
 def proofs(draw: random.Random) -> Odd:
@@ -135,6 +151,6 @@ def stage_lines(draw: random.Random) -> Odd:
 
 
 ODD: Tuple[Callable[[random.Random], Odd], ...] = (
-    (words,) * 4 + (missing,) * 3 + (generated,) * 3 + (long_name,) * 5 + (nested,) * 4 + (many,) * 8 + (long_text,) * 5
-    + (full_state,) * 6 + (large_atom,) * 4 + (many_offers,) * 3 + (much_typed,) * 2 + (long_run,) * 9 + (proofs,) * 14
-    + (stage_lines,) * 12)
+    (words,) * 6 + (missing,) * 3 + (generated,) * 3 + (long_name,) * 5 + (nested,) * 4 + (many,) * 14 + (long_text,) * 4
+    + (full_state,) * 10 + (large_atom,) * 5 + (many_offers,) * 3 + (much_typed,) * 4 + (long_run,) * 9
+    + (full_order,) * 4 + (proofs,) * 14 + (stage_lines,) * 18)

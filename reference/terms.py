@@ -18,11 +18,9 @@ class Sized(NamedTuple):
     depth: int
 
 
-def size(term: Term) -> Sized:
+def size(term: Node) -> Sized:
     """LANGUAGE, What is refused: a node for each constructor and variable, an atom one more for its predicate; the
     depth is 1 without arguments, and else 1 more than the deepest argument."""
-    if isinstance(term, int):
-        return Sized(1, 1)
     nodes, depth = 1, 0
     for arg in term[1:]:
         inner = size(arg)
