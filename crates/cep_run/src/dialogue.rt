@@ -93,7 +93,7 @@ fn all_turns<C: Console, M: Matcher, L: Ledger>(
     })
 }
 
-/// Writes the header of a transcript.
+/// Writes the header of a transcript. Where nobody reads it, nothing is made.
 pub fn begin<C: Console>(
     alloc: Global,
     program: &Program,
@@ -106,12 +106,15 @@ pub fn begin<C: Console>(
         (PutsFront (header program.now height))) }
     ensures cause { ConsoleCause (C.faults console.old) (C.faults console.new) result }
 {
+    if !console.is_read() {
+        return Ok(());
+    }
     let mut header = Text::new(alloc);
     put_start(program, height, &mut header)?;
     console.put(header.bytes())
 }
 
-/// Writes why the run ended, and the last state.
+/// Writes why the run ended, and the last state. Where nobody reads them, nothing is made.
 pub fn finish<C: Console>(
     alloc: Global,
     program: &Program,
@@ -126,6 +129,9 @@ pub fn finish<C: Console>(
         (PutsFront (end_lines program.now.signature word state.now))) }
     ensures cause { ConsoleCause (C.faults console.old) (C.faults console.new) result }
 {
+    if !console.is_read() {
+        return Ok(());
+    }
     let mut lines = Text::new(alloc);
     put_end(program, word, state, &mut lines)?;
     console.put(lines.bytes())
