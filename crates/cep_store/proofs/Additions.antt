@@ -1,6 +1,9 @@
 -- Terms that are added with their keys, and what stays of those that were there.
-use Rattle.std.proofs.Common.{◌≡◌, ◌⊎◌, inl, inr, ⊎_elim, ℕ, zero, suc, Bool, true, false, true≢false, List, [], ◌∷◌, ◌++◌, length, map, Some, refl, sym, ap, subst, ◌∙◌, append_assoc, if◌then◌else◌, ◌<◌, arith, ◌+◌, ◌≤◌, ◌^◌, length-append}
+use Rattle.std.proofs.Common.{◌≡◌, ◌⊎◌, inl, inr, ⊎_elim, ℕ, zero, suc, Bool, true, false, true≢false, List, [], ◌∷◌, ◌++◌, length, map, Some, refl, sym, ap, subst, ◌∙◌, append_assoc, if◌then◌else◌, ◌<◌, arith, ◌+◌, ◌≤◌, ◌^◌, length-append, get_or, take, drop}
 use Rattle.std.proofs.lemmas.List.{get_or_append_left}
+use Rattle.std.proofs.Math.Seq.{drop-append_seam, take-append_seam}
+use Rattle.std.proofs.lemmas.List.Quantifiers.{position-Some}
+use Rattle.std.specs.List.{position}
 use Rattle.std.specs.Option.{option_map_or}
 use Rattle.std.specs.Str.{bytes_eq}
 use Rattle.std.proofs.lemmas.Map.Keys.{IsDistinct-head, IsDistinct-tail}
@@ -67,6 +70,31 @@ module _ {K : Type 0} (key_of : K → List ℕ) where
         stands = get_mapped key_of new id stored.0 stored.1 ∙ ap Some (sym ((bytes_decides (key_of key) (key_of stored.0)).0 stored.2));
         place = grind (arith, map_last);
       }
+
+  -- a key that is found has its place
+  pub found_place : (ks : List K) (key : List ℕ) (id : ℕ) → position (λ k. bytes_eq key (key_of k)) ks ≡ Some id → slice_get (map key_of ks) id ≡ Some key
+  found_place [] key id found = none_some id found
+  found_place (k ∷ ks) key id found =
+      let at = position-Some (λ other. bytes_eq key (key_of other)) (k ∷ ks) id k found in
+      get_mapped key_of (k ∷ ks) id (get_or (k ∷ ks) id k) (slice_get-get_or (k ∷ ks) id k at.0) ∙ ap Some (sym ((bytes_decides key (key_of (get_or (k ∷ ks) id k))).0 at.1))
+
+  pub found_takes_place : (ks : List K) (key : List ℕ) (id : ℕ) (now : List (List ℕ)) → map key_of ks ≡ now → position (λ k. bytes_eq key (key_of k)) ks ≡ Some id → TakesPlace now key id now
+  found_takes_place ks key id now is found = record { stands = rw (← is) (found_place ks key id found); place = inl refl }
+
+-- A key that was begun behind another, and the key alone.
+
+-- what was begun with a head and the ids of arguments, alone
+pub alone_adds : (terms : List Tree) (old pushed whole key : List ℕ) (head : ℕ) (args : Trees) → pushed ≡ old ++ head ∷ [] → AddsIds terms pushed whole args → key ≡ drop (length old) whole → AddsIds terms (head ∷ []) key args
+alone_adds terms old pushed whole key head args starts adds is = record {
+  ids = adds.ids;
+  added = rw (is, adds.added, starts, append_assoc old (head ∷ []) adds.ids) (drop-append_seam old (head ∷ adds.ids));
+  within = adds.within;
+  are = adds.are;
+}
+
+-- and the other, as it was
+pub begun_again : (terms : List Tree) (old pushed whole : List ℕ) (head : ℕ) (args : Trees) → pushed ≡ old ++ head ∷ [] → AddsIds terms pushed whole args → take (length old) whole ≡ old
+begun_again terms old pushed whole head args starts adds = rw (adds.added, starts, append_assoc old (head ∷ []) adds.ids) (take-append_seam old (head ∷ adds.ids))
 
 -- Which terms are added, and what stays of those that were there.
 

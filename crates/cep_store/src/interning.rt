@@ -3,13 +3,19 @@ ghost use Rattle.cep_term.specs.Tree.{tree_of, trees_of, IsGround, AreGround};
 ghost use Rattle.cep_store.specs.Held.{IsFrontOf, IsPartOf, IsPartAmong, AddsOnly};
 ghost use Rattle.cep_store.specs.Keys.{terms_by, AreTermKeys, AddsIds};
 
-use crate::keys::Keys;
+use crate::keys::{Keys, key_behind};
 use cep_term::{Args, Term};
 use std::alloc::{AllocError, Global};
 
-// The id of a ground term, which is added after its parts where it is not there.
+// The id of a ground term, which is added after its parts where it is not there. Its key is made
+// behind a key that is begun, and goes again.
 #[cycle(intern)]
-fn intern_term(alloc: Global, terms: &mut Keys, t: &Term) -> Result<u64, AllocError>
+fn intern_term(
+    alloc: Global,
+    terms: &mut Keys,
+    t: &Term,
+    key: &mut Vec<u64>,
+) -> Result<u64, AllocError>
     requires known { IsGround (tree_of t.now) }
     requires keys { AreTermKeys terms.old }
     ensures id { IfOk result (λ id. slice_get (terms_by terms.new) id ≡ Some (tree_of t.now)) }
@@ -17,14 +23,17 @@ fn intern_term(alloc: Global, terms: &mut Keys, t: &Term) -> Result<u64, AllocEr
     ensures front { IsFrontOf (terms_by terms.old) (terms_by terms.new) }
     ensures only { AddsOnly (λ u. IsPartOf u (tree_of t.now)) (terms_by terms.old)
         (terms_by terms.new) }
+    ensures begun { OnOk result (key.new.items ≡ key.old.items) }
 {
     match t {
         Term::Var(_) => unreachable!(),
         Term::App(c, args) => {
-            let mut key = Vec::new(alloc);
+            let begun = key.len();
             key.push(*c as u64)?;
-            intern_args(alloc, terms, args, &mut key)?;
-            terms.add(key)
+            intern_args(alloc, terms, args, key)?;
+            let id = terms.add(alloc, key_behind(key, begun));
+            key.truncate(begun);
+            id
         }
     }
 }
@@ -49,7 +58,7 @@ pub(crate) fn intern_args(
     match args {
         Args::Nil => Ok(()),
         Args::Cons(cell) => {
-            let id = intern_term(alloc, terms, &cell.first)?;
+            let id = intern_term(alloc, terms, &cell.first, key)?;
             key.push(id)?;
             intern_args(alloc, terms, &cell.rest, key)
         }

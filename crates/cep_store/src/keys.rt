@@ -52,8 +52,22 @@ impl Keys {
         self.keys.as_slice()[id as usize].as_slice()
     }
 
+    // The id of the key, which is added at the end where it is not there. It is copied only then.
+    pub(crate) fn add(&mut self, alloc: Global, key: &[u64]) -> Result<u64, AllocError>
+        ensures place { IfOk result (λ id. TakesPlace self.old key.now id self.new) }
+        ensures apart { AreApart self.new }
+        ensures err { OnErr result (self.new ≡ self.old) }
+    {
+        // By this call the proof learns that the keys differ.
+        let _ = self.keys.len();
+        match self.keys.get_index_of(key) {
+            Some(id) => Ok(id as u64),
+            None => self.push(Vec::from_slice(alloc, key)?),
+        }
+    }
+
     // The id of the key, which is added at the end where it is not there.
-    pub(crate) fn add(&mut self, key: Vec<u64>) -> Result<u64, AllocError>
+    fn push(&mut self, key: Vec<u64>) -> Result<u64, AllocError>
         ensures place { IfOk result (λ id. TakesPlace self.old key.items id self.new) }
         ensures apart { AreApart self.new }
         ensures err { OnErr result (self.new ≡ self.old) }
@@ -78,4 +92,12 @@ pub(crate) fn ids_in(key: &[u64]) -> &[u64]
     ensures { result.now ≡ drop 1 key.now }
 {
     &key[1..]
+}
+
+// The key that was begun at this place.
+pub(crate) fn key_behind(keys: &[u64], begun: usize) -> &[u64]
+    requires { begun ≤ length keys.now }
+    ensures { result.now ≡ drop begun keys.now }
+{
+    &keys[begun..]
 }

@@ -18,6 +18,8 @@ pub struct Store {
     alloc: Global,
     terms: Keys,
     atoms: Keys,
+    // Where a key is made, one after another.
+    key: Vec<u64>,
 }
 
 // Written out: what holds one drops it by one call.
@@ -27,9 +29,11 @@ impl Drop for Store {
             alloc: _,
             terms,
             atoms,
+            key,
         } = self;
         drop(terms);
         drop(atoms);
+        drop(key);
     }
 }
 
@@ -56,6 +60,7 @@ impl Store {
             alloc,
             terms: Keys::new(alloc),
             atoms: Keys::new(alloc),
+            key: Vec::new(alloc),
         }
     }
 
@@ -70,10 +75,10 @@ impl Store {
             self.new.terms }
         ensures err { OnErr result (self.new.atoms ≡ self.old.atoms) }
     {
-        let mut key = Vec::new(self.alloc);
-        key.push(a.pred as u64)?;
-        intern_args(self.alloc, &mut self.terms, &a.args, &mut key)?;
-        self.atoms.add(key)
+        self.key.clear();
+        self.key.push(a.pred as u64)?;
+        intern_args(self.alloc, &mut self.terms, &a.args, &mut self.key)?;
+        self.atoms.add(self.alloc, &self.key)
     }
 
     /// How many atoms are held. It takes no memory.
