@@ -15,8 +15,8 @@ use std::sync::ledger::Ledger;
 
 impl<M: Matcher> Config<M> {
     /// Goes on by the change of a step from here, with one more turn done. The matcher is told of
-    /// all that the step takes and adds, kept premises included. Only out of memory is refused, and
-    /// then the configuration is gone.
+    /// what the step uses up and of what it makes. Only out of memory is refused, and then the
+    /// configuration is gone.
     pub fn go<L: Ledger>(
         self,
         alloc: Global,

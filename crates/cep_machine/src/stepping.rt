@@ -20,9 +20,9 @@ use std::sync::ledger::Ledger;
 impl<M: Matcher> Config<M> {
     /// Does a step by the offer at this place of the group that is asked, counted from 0, or says
     /// which limit it would pass. A step is Ceptre's; the limits are this profile's. Fewer than
-    /// 1,000,000 turns may be done before. The matcher is told of all linear premises as taken,
-    /// kept ones included, and as added of the right atoms in written order and then of the linear
-    /// premises that are kept. Only out of memory is refused, and then the configuration is gone.
+    /// 1,000,000 turns may be done before. The matcher is told of the linear premises as taken
+    /// that are not kept, and as added of the right atoms in written order; it ticks no more than if
+    /// it were told of the kept ones too. Only out of memory is refused, and then the configuration is gone.
     pub fn step<L: Ledger>(
         self,
         alloc: Global,
@@ -49,6 +49,7 @@ impl<M: Matcher> Config<M> {
             ≡ M.height_held self.matcher) }
         ensures never_falls { steps.old ≤ steps.new }
     {
+        M::kept_premises_cost_nothing();
         let group = self.asked().unwrap();
         match self.weigh(alloc, program, group, i)? {
             Weighed::Passes(limit, number) => Ok(Stepped::Passes {

@@ -7,6 +7,7 @@ ghost use Rattle.cep_rule.specs.Typing.{is_fact};
 ghost use Rattle.cep_rule.specs.Limits.{IsHeight};
 ghost use Rattle.cep_rule.specs.State.{IsState, Fits};
 ghost use Rattle.cep_rule.specs.Matching.{offers_of, AreListed, state_after, RoseBy};
+ghost use Rattle.cep_offer.specs.Leaving.{LeavesAlone};
 
 use cep_base::Steps;
 use cep_base::limits::MOST_OFFERS;
@@ -106,6 +107,15 @@ pub trait Matcher: Sized + Drop {
     {
         self.count(group) <= MOST_OFFERS
     }
+
+    /// What is kept costs nothing: an edit may tick as often where it takes atoms too and adds them
+    /// again as where it leaves them alone. The function computes nothing.
+    fn kept_premises_cost_nothing()
+        ensures { (program : Parts) (state : Multiset) (height : ℕ) (used : Multiset)
+            (made : List AtomTree) (taken : Multiset) (added : List AtomTree) (ticks : ℕ)
+            → LeavesAlone program.signature state used made taken added
+            → may_edit program state height used made ticks
+            → may_edit program state height taken added ticks };
 
     /// The height of a matcher of a program is one.
     ghost low: { (program : Parts) (matcher : Self)

@@ -13,7 +13,7 @@ use Rattle.cep_base.specs.declared.limits.TheConstants.{MOST_OFFERS}
 use Rattle.cep_base.specs.declared.console.Event.{Event}
 use Rattle.cep_base.specs.Talk.{outs, Did}
 use Rattle.cep_base.proofs.Lists.{holds_at, some_same}
-use Rattle.cep_term.specs.Multiset.{Multiset}
+use Rattle.cep_term.specs.Multiset.{Multiset, gathered}
 use Rattle.cep_term.specs.Tree.{AtomTree}
 use Rattle.cep_base.proofs.Did.{did_same, did_map, did_then}
 use Rattle.cep_rule.specs.declared.rule.Rule.{Rule}
@@ -25,6 +25,8 @@ use Rattle.cep_rule.specs.Steps.{StepsTo, AreProofs}
 use Rattle.cep_rule.specs.Typing.{AreValues}
 use Rattle.cep_rule.specs.Matching.{offers_of, AreListed, RoseBy}
 use Rattle.cep_rule.specs.Shapes.{IsOfferOf, IsProofOf}
+use Rattle.cep_rule.specs.Instances.{taken_by, added_by}
+use Rattle.cep_offer.specs.Leaving.{LeavesAlone}
 use Rattle.cep_step.specs.Changes.{IsChangeOf, changed}
 use Rattle.cep_rule.specs.Derivations.{ProofTree, Proves}
 use Rattle.cep_rule.specs.Program.{IsProgram}
@@ -94,6 +96,11 @@ pub listed_applies : {program : Parts} {height : ℕ} {state : Multiset} {lists 
     → Applies program settings.height state offer
 listed_applies {program} {height} {state} {lists} {group} place {offer} settings are listed at same = rw same at (is_offer program height state group (offers_of lists group) (are.each group listed) place offer at).applies
 
+-- What is kept costs nothing.
+abbrev pub KeptCostNothing : Edits → Type 0
+KeptCostNothing may_edit = (program : Parts) (state : Multiset) (height : ℕ) (used : Multiset) (made : List AtomTree) (taken : Multiset) (added : List AtomTree) (ticks : ℕ) → LeavesAlone program.signature state used made taken added
+    → may_edit program state height used made ticks → may_edit program state height taken added ticks
+
 -- What the choice of a place comes to, by what the step by the offer there was weighed to
 module _ {M : Type 0} {program : Parts} {lists : List (List Offer)} {offers : List Offer} {place : ℕ} (old : Configuration M) {weighed : Weighed}
     (is : IsWeighedAt program lists place (spot_of old) weighed) (asked : offers ≡ asked_offers lists old.stage) where
@@ -153,12 +160,12 @@ module _ {M : Type 0} {program : Parts} {lists : List (List Offer)} {offers : Li
           inr (record { next = position_of new; counted = counted; more = more; acts = acts come (events ++ more) rest (whole, cut.untaken) })) begun
 
       -- the counter rose by one for each backward premise, and then by what the edit may tick
-      pub done_rose : (may_edit : Edits) (at_height high : ℕ) → high ≡ at_height → (ticks between ticks' : ℕ) → ((rule : Rule) → slice_get program.rules offer.rule ≡ Some rule → between ≡ ticks + length rule.backs)
+      pub done_rose : (may_edit : Edits) → KeptCostNothing may_edit → (at_height high : ℕ) → high ≡ at_height → (ticks between ticks' : ℕ) → ((rule : Rule) → slice_get program.rules offer.rule ≡ Some rule → between ≡ ticks + length rule.backs)
           → RoseBy (may_edit program old.state high change.taken change.added) between ticks' → RoseByAct may_edit program at_height offers place old (Done new) ticks ticks'
-      done_rose may_edit at_height high same ticks between ticks' proved edited other rule placed_there =
+      done_rose may_edit kept at_height high same ticks between ticks' proved edited other rule placed_there =
           let one : offer ≡ other = some_same offer other (sym at ∙ placed_there.at_place) in
           let rules : is.rule ≡ rule = some_same is.rule rule (sym is.numbered ∙ rw (same_offer, one) placed_there.of_rule) in
-          let allowed = rw (does.taken, does.added, same) at edited.allows in
+          let allowed = rw same at (kept program old.state high change.taken change.added (gathered (taken_by program.signature is.rule is.offer.values)) (added_by program.signature is.rule is.offer.values) edited.ticks does.leaves edited.allows) in
           let first = proved rule (rw one placed_there.of_rule) in
           let later = edited.risen in
           record { ticks = edited.ticks + length rule.backs; allows = record { edit = edited.ticks; allowed = rw (same_offer, one, rules) at allowed; sum = refl }; risen = omega (arith, first, later) }

@@ -92,6 +92,7 @@ pub fn act<C: Console, M: Matcher, L: Ledger>(
     ensures counted { steps.old ≤ steps.new }
     ensures cause { ConsoleCause (C.faults console.old) (C.faults console.new) result }
 {
+    M::kept_premises_cost_nothing();
     match config.weigh(alloc, program, group, place)? {
         Weighed::Passes(limit, _) => Ok(over(config, word_of(limit))),
         Weighed::Within(change) => {

@@ -1,5 +1,5 @@
 -- The change of a rule that applies, its sizes, and what the state after it weighs.
-use Rattle.std.proofs.Common.{◌≡◌, not, ℕ, ◌+◌, ◌≤◌, Bool, true, ◌||◌, List, [], ◌∷◌, ◌++◌, length, map, take, Some, refl, ap, suc, ◌*◌, max, None, unwrap_or, arith, ◌⊎◌, ◌^◌, ◌<◌, Option}
+use Rattle.std.proofs.Common.{◌≡◌, not, ℕ, ◌+◌, ◌≤◌, Bool, true, false, ◌||◌, List, [], ◌∷◌, ◌++◌, length, map, take, Some, refl, ap, suc, ◌*◌, max, None, unwrap_or, arith, ◌⊎◌, ◌^◌, ◌<◌, Option}
 use Rattle.std.proofs.Math.Nat.{add-mul}
 use Rattle.std.specs.List.{AllByRecursion}
 use Rattle.std.specs.Prelude.{slice_get, filter, slice_index_or, sum_by, IfSome}
@@ -13,7 +13,7 @@ use Rattle.cep_rule.specs.Binding.{needed_of}
 use Rattle.cep_rule.specs.Patterns.{PremiseTree}
 use Rattle.cep_rule.specs.Shapes.{IsSmallTerm}
 use Rattle.cep_rule.specs.State.{Fits}
-use Rattle.cep_rule.specs.Instances.{full_instance, full_instances, given, kept_of, taken_by, added_by}
+use Rattle.cep_rule.specs.Instances.{full_instance, full_instances, given, taken_by, added_by, used_by}
 use Rattle.cep_rule.specs.declared.signature.Signature.{Signature}
 use Rattle.cep_rule.specs.Limits.{IsSmallPattern, IsSmallRule}
 use Rattle.cep_rule.specs.Program.{IsTypedRule, IsDividedRule, IsProgram}
@@ -23,11 +23,11 @@ use Rattle.cep_rule.specs.Step.{Step}
 use Rattle.cep_rule.specs.Typing.{is_fact, IsTyped, AreValues}
 use Rattle.cep_rule.specs.declared.parts.Parts.{Parts}
 use Rattle.cep_rule.specs.declared.rule.Rule.{Rule}
-use Rattle.cep_rule.proofs.StepLaws.{all_kept}
 use Rattle.cep_rule.proofs.TypedValues.{term_alone}
 use Rattle.cep_base.proofs.Elements.{both_all, all_of, all_at}
 use Rattle.cep_base.proofs.Lists.{take_next, map_last, holds_at_mapped, holds_at, all_weaker, all_mapped, filter_few as few_pass}
 use Rattle.cep_base.specs.declared.limits.TheConstants.{MOST_DEPTH, MOST_NODES, MOST_PREMISES, MOST_RIGHT}
+use Rattle.cep_offer.specs.Leaving.{LeavesAlone}
 use Rattle.cep_step.specs.Changes.{CanStep, IsWeighed}
 use Rattle.cep_step.specs.Spots.{IsSpotOf}
 use Rattle.cep_step.specs.StepLaws.{StepLaws}
@@ -40,15 +40,32 @@ use Rattle.cep_step.specs.declared.limit.Limit.TheVariants.{Atom, State}
 
 -- Atoms of a rule that are gone through one by one.
 
--- the atoms of premises, of the linear ones among them, and of those that are kept
+-- the atoms of premises, of those that are used up, and of the linear ones that are kept
 abbrev pub premise_atoms : List PremiseTree → List AtomTree
 premise_atoms premises = map (λ premise. premise.atom) premises
 
-abbrev pub linear_among : Signature → List PremiseTree → List AtomTree
-linear_among signature premises = without (is_fact signature) (premise_atoms premises)
+abbrev pub used_among : Signature → List PremiseTree → List AtomTree
+used_among signature premises = premise_atoms (filter (λ premise. not (premise.kept || is_fact signature premise.atom)) premises)
 
 abbrev pub linear_kept_among : Signature → List PremiseTree → List AtomTree
 linear_kept_among signature premises = without (is_fact signature) (premise_atoms (filter (λ premise. premise.kept || is_fact signature premise.atom) premises))
+
+-- linear premises are used up or kept
+linear_parted : BagLaws → (signature : Signature) (values : List Tree) (premises : List PremiseTree) (a : AtomTree)
+    → count_of (gathered (full_instances values (without (is_fact signature) (premise_atoms premises)))) a ≡ count_of (gathered (full_instances values (used_among signature premises))) a + count_of (gathered (full_instances values (linear_kept_among signature premises))) a
+linear_parted laws signature values [] a = omega (arith, laws.empty a)
+linear_parted laws signature values (premise ∷ premises) a = by premise.kept (is_fact signature premise.atom) refl refl (linear_parted laws signature values premises a)
+  where
+    one : List AtomTree
+    one = full_instance values premise.atom ∷ []
+
+    by : (kept fact : Bool) → premise.kept ≡ kept → is_fact signature premise.atom ≡ fact
+        → count_of (gathered (full_instances values (without (is_fact signature) (premise_atoms premises)))) a ≡ count_of (gathered (full_instances values (used_among signature premises))) a + count_of (gathered (full_instances values (linear_kept_among signature premises))) a
+        → count_of (gathered (full_instances values (without (is_fact signature) (premise_atoms (premise ∷ premises))))) a ≡ count_of (gathered (full_instances values (used_among signature (premise ∷ premises)))) a + count_of (gathered (full_instances values (linear_kept_among signature (premise ∷ premises)))) a
+    by true true kept fact rest = rw (kept, fact) rest
+    by false true kept fact rest = rw (kept, fact, fact) rest
+    by true false kept fact rest = rw (kept, fact) (omega (arith, rest, laws.joined_count one (full_instances values (without (is_fact signature) (premise_atoms premises))) a, laws.joined_count one (full_instances values (linear_kept_among signature premises)) a))
+    by false false kept fact rest = rw (kept, fact) (omega (arith, rest, laws.joined_count one (full_instances values (without (is_fact signature) (premise_atoms premises))) a, laws.joined_count one (full_instances values (used_among signature premises)) a))
 
 -- the instance of a premise's atom can be built, if those of all are
 pub premise_within : (values : List Tree) (premises : List PremiseTree) (n : ℕ) (premise : PremiseTree) → AllByRecursion (IsAtomInRange (length values)) (premise_atoms premises) → slice_get premises n ≡ Some premise → IsAtomInRange (length values) premise.atom
@@ -189,30 +206,27 @@ module _ (laws : StepLaws) (program : Parts) (rule : Rule) (values : List Tree) 
   pub exact_number : (number : ℕ) → IsFirstUnfit IsBeyond (full_instances values rule.right) number → AllByRecursion IsSmallTerm values → IsExcess program.signature rule values spot.state Atom number
   exact_number number first small = exact (full_instances values rule.right) number (few_nodes values small rule.right is.small.right_nodes) first
 
-  pub taken_fit : AllByRecursion IsFit (taken_by program.signature rule values)
-  taken_fit = all_kept IsFit (full_instance values) (λ a. not (is_fact program.signature a)) (needed_of rule) needed_fit
+  pub used_fit : AllByRecursion IsFit (used_by program.signature rule values)
+  used_fit = all_passing IsFit (λ premise. not (premise.kept || is_fact program.signature premise.atom)) values rule.premises needed_fit
 
-  pub added_fit : MakesFit rule values → AllByRecursion IsFit (added_by program.signature rule values)
-  added_fit fit = grind (arith, map-append, both_all, rule.right, fit, all_kept IsFit (full_instance values) (λ a. not (is_fact program.signature a)) (kept_of program.signature rule) (all_passing IsFit (λ premise. premise.kept || is_fact program.signature premise.atom) values rule.premises needed_fit))
-
-  pub few_added : length (added_by program.signature rule values) ≤ MOST_PREMISES + MOST_RIGHT
-  few_added = grind (arith, length-map, length-append, few_pass, is.small.premises, is.small.right, rule.right, program.signature, rule.premises)
+  few_made : length (full_instances values rule.right) ≤ MOST_PREMISES + MOST_RIGHT
+  few_made = grind (arith, length-map, is.small.right, rule.right)
 
   -- What is taken, added and gained is the change of a step.
 
   abbrev is_one_fact : AtomTree → Bool
   is_one_fact = is_fact program.signature
 
-  pub taken_ground : (taken : List AtomTree) → taken ≡ taken_by program.signature rule values → AllByRecursion IsGroundAtom taken
-  taken_ground taken same = rw same (laws.taken_ground program.signature rule values is.typed is.are)
+  pub taken_ground : (taken : List AtomTree) → taken ≡ used_by program.signature rule values → AllByRecursion IsGroundAtom taken
+  taken_ground taken same = rw same (laws.used_ground program.signature rule values is.typed is.are)
 
-  pub added_ground : (added : List AtomTree) → added ≡ added_by program.signature rule values → AllByRecursion IsGroundAtom added
-  added_ground added same = rw same (laws.added_ground program.signature rule values is.typed is.are)
+  pub added_ground : (added : List AtomTree) → added ≡ full_instances values rule.right → AllByRecursion IsGroundAtom added
+  added_ground added same = rw same (laws.made_ground program.signature rule values is.typed is.are)
 
-  pub taken_few : (taken : List AtomTree) → taken ≡ taken_by program.signature rule values → length taken ≤ MOST_PREMISES
+  pub taken_few : (taken : List AtomTree) → taken ≡ used_by program.signature rule values → length taken ≤ MOST_PREMISES
   taken_few taken same = rw same (grind (arith, length-map, few_pass, is.small.premises, program.signature, rule.premises))
 
-  module _ (taken added : List AtomTree) (listed : Option (List AtomTree)) (taken_is : taken ≡ taken_by program.signature rule values) (added_is : added ≡ added_by program.signature rule values) (gains_are : unwrap_or listed added ≡ gained is_one_fact spot.state added) (fit : MakesFit rule values) where
+  module _ (taken added : List AtomTree) (listed : Option (List AtomTree)) (taken_is : taken ≡ used_by program.signature rule values) (added_is : added ≡ full_instances values rule.right) (gains_are : unwrap_or listed added ≡ gained is_one_fact spot.state added) (fit : MakesFit rule values) where
     abbrev gains : List AtomTree
     gains = unwrap_or listed added
 
@@ -220,10 +234,10 @@ module _ (laws : StepLaws) (program : Parts) (rule : Rule) (values : List Tree) 
     new_state = sum_of (difference_of spot.state (gathered taken)) (gathered gains)
 
     contained : IsContained (gathered taken) spot.state
-    contained = rw taken_is (laws.taken program.signature rule values spot.state is.contained)
+    contained = rw taken_is (laws.used program.signature rule values spot.state is.contained)
 
     no_facts : (a : AtomTree) → is_one_fact a ≡ true → count_of (gathered taken) a ≡ 0
-    no_facts = rw taken_is (laws.no_facts program.signature rule values)
+    no_facts = rw taken_is (laws.no_facts_used program.signature rule values)
 
     -- what is taken and gained can be weighed
     pub can_weigh : CanWeigh spot.state taken gains
@@ -232,10 +246,10 @@ module _ (laws : StepLaws) (program : Parts) (rule : Rule) (values : List Tree) 
       fits = is.here.fits;
       contained = contained;
       taken_ground = taken_ground taken taken_is;
-      taken_fit = rw taken_is (taken_fit);
-      gains_fit = rw gains_are (all_of IsFit (gained is_one_fact spot.state added) (λ a there. all_at IsFit added a (rw added_is (added_fit fit)) (laws.bags.gained_among is_one_fact spot.state added a there)));
+      taken_fit = rw taken_is (used_fit);
+      gains_fit = rw gains_are (all_of IsFit (gained is_one_fact spot.state added) (λ a there. all_at IsFit added a (rw added_is fit) (laws.bags.gained_among is_one_fact spot.state added a there)));
       few_taken = taken_few taken taken_is;
-      few_gains = omega (arith, ap length gains_are, laws.bags.gained_few is_one_fact spot.state added, ap length added_is, few_added);
+      few_gains = omega (arith, ap length gains_are, laws.bags.gained_few is_one_fact spot.state added, ap length added_is, few_made);
     }
 
     -- no fact is taken, so what is left gains what the state does
@@ -248,6 +262,19 @@ module _ (laws : StepLaws) (program : Parts) (rule : Rule) (values : List Tree) 
     step : Step program.signature rule values spot.state new_state
     step = rw (after, taken_is, added_is) (laws.edit program.signature rule values spot.state is.typed is.are is.here.is_state is.contained)
 
+    leaves_alone : LeavesAlone program.signature spot.state (gathered taken) added (gathered (taken_by program.signature rule values)) (added_by program.signature rule values)
+    leaves_alone = record {
+      kept = full_instances values (linear_kept_among program.signature rule.premises);
+      taken_too = rw taken_is (linear_parted laws.bags program.signature values rule.premises);
+      added_again = rw added_is (map-append (full_instance values) rule.right (linear_kept_among program.signature rule.premises));
+      no_facts = laws.no_facts program.signature rule values;
+      contained = laws.taken program.signature rule values spot.state is.contained;
+      state_bag = is.here.is_state.bag;
+      used_bag = laws.bags.gathered_kept taken (taken_ground taken taken_is);
+      taken_bag = laws.bags.gathered_kept (taken_by program.signature rule values) (laws.taken_ground program.signature rule values is.typed is.are);
+      ground = laws.added_ground program.signature rule values is.typed is.are;
+    }
+
     pub too_full : (number : ℕ) → IsTooFull new_state number → IsWeighed program rule values spot (Passes State number)
     too_full number full = ((fit, (new_state, step, not_fitting new_state number full)), λ small. (new_state, step, full))
 
@@ -258,6 +285,7 @@ module _ (laws : StepLaws) (program : Parts) (rule : Rule) (values : List Tree) 
         rw same (record {
           taken = ap gathered taken_is;
           added = added_is;
+          leaves = leaves_alone;
           gains = gains_by;
           no_facts = no_facts;
           after = after;

@@ -7,11 +7,12 @@ use Rattle.cep_term.specs.Multiset.{Multiset, count_of, gathered, sum_of, differ
 use Rattle.cep_rule.specs.declared.parts.Parts.{Parts}
 use Rattle.cep_rule.specs.declared.rule.Rule.{Rule}
 use Rattle.cep_rule.specs.Typing.{AreValues, is_fact}
-use Rattle.cep_rule.specs.Instances.{left_of, taken_by, added_by}
+use Rattle.cep_rule.specs.Instances.{full_instances, left_of, taken_by, added_by, used_by}
 use Rattle.cep_rule.specs.Shapes.{IsSmallTerm}
 use Rattle.cep_rule.specs.State.{Fits}
 use Rattle.cep_rule.specs.Matching.{state_after}
 use Rattle.cep_rule.specs.Steps.{Spot, StepsTo}
+use Rattle.cep_offer.specs.Leaving.{LeavesAlone}
 use Rattle.cep_step.specs.declared.change.Change.{Change}
 use Rattle.cep_step.specs.declared.limit.Limit.TheVariants.{Atom}
 use Rattle.cep_step.specs.declared.weighing.Weighed.{Weighed}
@@ -49,12 +50,15 @@ pub record CanStep (program : Parts) (rule : Rule) (values : List Tree) (state :
   pub are : AreValues program.signature.cons rule.kinds values
   pub contained : IsContained (left_of program.signature rule values) state
 
--- A change is that of a step from a spot: it takes and adds what the step does, and gains what of
--- this is not there already; and it leads where the step does.
+-- A change is that of a step from a spot: it takes what the step uses up, adds what it makes, and
+-- gains what of this is not there already; it leaves alone what the step needs beside; and it leads
+-- where the step does.
 pub record IsChangeOf (program : Parts) (rule : Rule) (values : List Tree) (spot : Spot)
     (change : Change) : Type 0 where
-  pub taken : change.taken ≡ gathered (taken_by program.signature rule values)
-  pub added : change.added ≡ added_by program.signature rule values
+  pub taken : change.taken ≡ gathered (used_by program.signature rule values)
+  pub added : change.added ≡ full_instances values rule.right
+  pub leaves : LeavesAlone program.signature spot.state change.taken change.added
+      (gathered (taken_by program.signature rule values)) (added_by program.signature rule values)
   pub gains : gains_of change
       ≡ gained (is_fact program.signature) (difference_of spot.state change.taken) change.added
   pub no_facts : (a : AtomTree) → is_fact program.signature a ≡ true → count_of change.taken a ≡ 0

@@ -12,7 +12,7 @@ use crate::fitting::first_too_large;
 use crate::laws::steps_are_lawful;
 use crate::limit::Limit;
 use crate::measured::Measured;
-use crate::sides::{added_atoms, taken_atoms};
+use crate::sides::{made_atoms, used_atoms};
 use cep_base::limits::{MOST_COPIES, MOST_STATE_NODES};
 use cep_offer::gained_unless_all;
 use cep_rule::{AtomList, Parts, Rule, Terms};
@@ -62,8 +62,8 @@ pub(crate) fn weigh(
     if let Some(number) = too_large {
         return Ok(Weighed::Passes(Limit::Atom, number));
     }
-    let taken = taken_atoms(alloc, signature, rule, values)?;
-    let added = added_atoms(alloc, signature, rule, values)?;
+    let taken = used_atoms(alloc, signature, rule, values)?;
+    let added = made_atoms(alloc, rule, values)?;
     let gains = gained_unless_all(alloc, signature, state, &added)?;
     match weigh_edit(state, nodes, &taken, listed_or(&gains, &added)) {
         Weight::TooFull(number) => Ok(Weighed::Passes(Limit::State, number)),

@@ -48,7 +48,7 @@ pub returns-in_ok-tell_deed-in-Within-clause-ticked : goal.returns-in_ok-tell_de
 returns-in_ok-tell_deed-in-Within-clause-ticked g c =
     let went = c.in_ok-config-in-Within.ensures in
     let made = c.in_ok-lines-in-Within.ensures in
-    done_rose c.args.config c.in_ok-limit.ensures c.requires.asked c.in-Within.is c.in_ok-config-in-Within.config went.spot went.turns (rw c.matcher.ensures.matcher at c.offer-offer.ensures) made.lines g.M.Matcher.may_edit c.args.settings.height _ c.requires.played.height _ _ _ made.ticked went.ticked
+    done_rose c.args.config c.in_ok-limit.ensures c.requires.asked c.in-Within.is c.in_ok-config-in-Within.config went.spot went.turns (rw c.matcher.ensures.matcher at c.offer-offer.ensures) made.lines g.M.Matcher.may_edit c.kept_premises_cost_nothing.ensures c.args.settings.height _ c.requires.played.height _ _ _ made.ticked went.ticked
 
 pub returns-in_ok-tell_deed-in-Within-clause-played : goal.returns-in_ok-tell_deed-in-Within-clause-played
 returns-in_ok-tell_deed-in-Within-clause-played g c =

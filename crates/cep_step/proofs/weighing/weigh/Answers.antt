@@ -23,14 +23,11 @@ returns-in_ok-of-in-Fits c =
     within c.steps_are_lawful.ensures _ _ _ _ c.requires.ready _ _ _ c.in_ok-taken.ensures c.in_ok-added.ensures c.in_ok-gains.ensures (rw c.in_ok-new.ensures at c.in_default.ensures)
     _ _ _ c.in_ok-of-in-Fits.ensures c.unwrap_or.ensures (rw (← c.listed_or.ensures) c.in-Fits.ensures)
 
-pub taken_atoms-requires : goal.taken_atoms-requires
-taken_atoms-requires c = in_range c.steps_are_lawful.ensures c.args.parts.now.signature _ _ c.requires.ready.are _ c.requires.ready.typed.premises
+pub used_atoms-requires : goal.used_atoms-requires
+used_atoms-requires c = in_range c.steps_are_lawful.ensures c.args.parts.now.signature _ _ c.requires.ready.are _ c.requires.ready.typed.premises
 
-pub added_atoms-requires-clause-right : goal.added_atoms-requires-clause-right
-added_atoms-requires-clause-right c = in_range c.steps_are_lawful.ensures c.args.parts.now.signature _ _ c.requires.ready.are _ c.requires.ready.typed.right
-
-pub added_atoms-requires-clause-needed : goal.added_atoms-requires-clause-needed
-added_atoms-requires-clause-needed c = in_range c.steps_are_lawful.ensures c.args.parts.now.signature _ _ c.requires.ready.are _ c.requires.ready.typed.premises
+pub made_atoms-requires : goal.made_atoms-requires
+made_atoms-requires c = in_range c.steps_are_lawful.ensures c.args.parts.now.signature _ _ c.requires.ready.are _ c.requires.ready.typed.right
 
 pub gained_unless_all-requires : goal.gained_unless_all-requires
 gained_unless_all-requires c = added_ground c.steps_are_lawful.ensures _ _ _ _ c.requires.ready _ c.in_ok-added.ensures

@@ -3,7 +3,7 @@ use Rattle.std.proofs.lemmas.List.{map-append, take_all}
 use Rattle.std.proofs.lemmas.List.Elements.{filter-append}
 use Rattle.cep_base.proofs.Lists.{take_next}
 use Rattle.cep_step.proofs.Ready.{premise_within}
-use Rattle.cep_step.proofs.sides.taken_atoms.Goals as goal
+use Rattle.cep_step.proofs.sides.used_atoms.Goals as goal
 
 pub push_if-requires : goal.push_if-requires
 push_if-requires c = premise_within _ _ _ _ c.requires c.get-premise.ensures

@@ -1,7 +1,0 @@
-use Rattle.std.proofs.Common.{◌≡◌, take}
-use Rattle.cep_rule.specs.Instances.{full_instances}
-use Rattle.cep_step.proofs.Ready.{linear_among}
-use Rattle.cep_step.proofs.sides.taken_atoms.Given as goal
-
-abbrev pub invariant-loop-i : goal.invariant-loop-i
-invariant-loop-i l = l.atoms ≡ full_instances l.values (linear_among l.signature (take l.i l.rule.premises))
