@@ -106,9 +106,10 @@ _ceptre_form() {
 _ceptre_script_form() {
     case $1 in
     explain) options='--help --version --all --hints --format --memory' words=('.cep' '.log') again= ;;
-    follow) options='--help --version --at --causes --dot --memory' words=('.cep' '.log') again= ;;
+    follow) options='--help --version --at --context --causes --dot --memory' words=('.cep' '.log') again= ;;
     format) options='--help --version --check --memory' words=('.cep') again=1 ;;
     grade) options='--help --version --goal --height --end --typed --seed --turns --json --jobs --memory' words=('.cep' '.log') again=1 ;;
+    map) options='--help --version --rules --state --memory' words=('.cep') again= ;;
     player) options='--help --version --log --load --from --rows --plain --memory' words=('.cep' 'seed= height= turns=') again=1 ;;
     publish) options='--help --version --title --output --transcript --site --players --seed --height --turns' words=('.cep') again= ;;
     replay) options='--help --version --seed --turns --typed --words --memory' words=('.cep' '.log') again= ;;
@@ -136,6 +137,7 @@ _ceptre_value() {
     grade:--turns) value='-' ;;
     grade:--jobs) value='-' ;;
     grade:--memory) value='-' ;;
+    map:--memory) value='-' ;;
     player:--log) value='FILE' ;;
     player:--load) value='FILE' ;;
     player:--from) value='.log' ;;
@@ -174,5 +176,5 @@ _ceptre_value() {
     esac
 }
 
-complete -F _ceptre_script {,./}tools/{explain,follow,format,grade,player,publish,replay,sample,server,solve,why} ceptre-{explain,follow,format,grade,player,publish,replay,sample,server,solve,why}
+complete -F _ceptre_script {,./}tools/{explain,follow,format,grade,map,player,publish,replay,sample,server,solve,why} ceptre-{explain,follow,format,grade,map,player,publish,replay,sample,server,solve,why}
 # end of what is made

@@ -84,6 +84,7 @@ for place in '-c ceptre-follow' '-p */tools/follow'
     complete $at -l help -d 'what it does'
     complete $at -l version -d 'its version'
     complete $at -x -l at -d 'the state after step K'
+    complete $at -l context -d 'with --at'
     complete $at -x -l causes -d 'the earlier steps that step K rests on'
     complete $at -l dot -d 'all of these causes'
     complete $at -x -l memory -d 'the most that the program may take'
@@ -117,6 +118,17 @@ for place in '-c ceptre-grade' '-p */tools/grade'
     complete $at -x -l memory -d 'the most that the program may take'
     complete $at -n '__ceptre_arguments -eq 1' -k -a '(__fish_complete_suffix .cep)'
     complete $at -n '__ceptre_arguments -ge 2' -k -a '(__fish_complete_suffix .log)'
+end
+
+for place in '-c ceptre-map' '-p */tools/map'
+    set -l at (string split ' ' -- $place)
+    complete $at -f
+    complete $at -l help -d 'what it does'
+    complete $at -l version -d 'its version'
+    complete $at -l rules -d 'the rules'
+    complete $at -l state -d 'what the start joins by predicates of two equal types'
+    complete $at -x -l memory -d 'the most that the program may take'
+    complete $at -n '__ceptre_arguments -eq 1' -k -a '(__fish_complete_suffix .cep)'
 end
 
 for place in '-c ceptre-player' '-p */tools/player'

@@ -225,6 +225,7 @@ draws all of them.""",
         WORLD,
         Option("LOG", "the transcript", completed=".log"),
         Option("--at", "the state after step K; 0 is the start", "K", kind=int, group="part"),
+        Option("--context", "with --at, as a context and a `#trace` that can be pasted into the world"),
         Option("--causes", "the earlier steps that step K rests on", "K", kind=int, group="part"),
         Option("--dot", "all of these causes, as a picture for Graphviz", group="part"),
         MEMORY,
@@ -424,6 +425,20 @@ are searched, and those from which no goal can be reached are shown, with a way 
 world is refused, or something could not be read, run or written; 4 none was found before a limit.""",
 )
 
+MAP = Script(
+    """Draws a world for Graphviz: `tools/map WORLD | dot -Tsvg >PICTURE.svg`. Without an option its stages,
+with the rules that lead from one to another; the player chooses in those that are boxes.""",
+    (
+        WORLD,
+        Option("--rules", "the rules, and which make what which need", group="part"),
+        Option(
+            "--state", "what the start joins by predicates of two equal types, such as rooms", group="part"
+        ),
+        MEMORY,
+    ),
+    """0 it is written, 2 usage, 3 the world is refused, or something could not be read, run or written.""",
+)
+
 WHY = Script(
     """Says why a rule is or is not offered after step K of an accepted transcript (0 is the start): which
 of its premises are met by what, in how many ways, and which one nothing meets. Values that are given
@@ -467,6 +482,7 @@ SCRIPTS = {
     "follow": FOLLOW,
     "format": FORMAT,
     "grade": GRADE,
+    "map": MAP,
     "player": PLAYER,
     "publish": PUBLISH,
     "replay": REPLAY,

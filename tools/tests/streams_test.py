@@ -10,6 +10,7 @@ WORDS = {
     "explain": "worlds/apple.cep",
     "follow": "worlds/apple.cep worlds/apple.log",
     "grade": "worlds/apple.cep worlds/apple.log",
+    "map": "worlds/nim.cep",
     "player": "worlds/apple.cep",
     "replay": "worlds/apple.cep worlds/apple.log",
     "sample": "worlds/apple.cep --runs 2",

@@ -4,9 +4,10 @@ import sys
 from argparse import Namespace
 from typing import NamedTuple, Optional
 
+from ceptre_tools.follow.context import context_lines
 from ceptre_tools.follow.graph import causes_asked, drawn, lines_of_causes
 from ceptre_tools.program import DONE, MOST_LOG, MOST_WORLD, REFUSED, REJECTED, opened, run, verdict
-from ceptre_tools.terminal import FAILED, script
+from ceptre_tools.terminal import FAILED, USAGE, script
 from ceptre_tools.text import shown
 from ceptre_tools.transcript import Derivation, Step, Transcript, legal_prefix, listing
 from ceptre_tools.world import World
@@ -80,6 +81,8 @@ def part_asked(words: Namespace, world_text: str, log: Transcript, world: str, p
         offers, causes = [step.offer for step in log.steps], causes_asked(world, path, len(log.steps))
         return drawn(offers, causes) if words.dot else lines_of_causes(offers, causes, words.causes)
     read = World(world_text)
+    if words.context and words.at is not None:
+        return context_lines(read, log, words.at)
     return lines_of(read, log) if words.at is None else state_at(read, log, words.at)
 
 
@@ -95,6 +98,8 @@ def shown_part(words: Namespace, world_text: str, world: str, text: str, path: s
     if prefix is None:
         return Shown(NOT_ACCEPTED, [], f"{words.log}: {answer.line}")
     log = Transcript.of(prefix)
+    if words.context and words.at is None:
+        return Shown(USAGE, [], "--context needs --at K")
     said = no_such_step(words, len(log.steps))
     if said:
         return Shown(NOT_ACCEPTED, [], said)
