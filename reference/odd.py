@@ -109,8 +109,8 @@ def long_run(draw: random.Random) -> Odd:
     lines = "step r\n" * min(steps, 100) + middle * (steps >= 100) + "step r\n" * max(steps - 100, 0)
     end = "state 200\nhave 1 a\nhave 200 b\n" * (steps == 200) + f"end turns\nhave 1 a\nhave {steps} b\n"
     log = f"ceptre {draw.choice('221')}\nheight 128\nstage main\nhave 1 a\n{lines}{end}"
-    asked = draw.choice((["check", "f", "g"], ["renew", "f", "g"], ["play", "f", f"turns={steps}"], ["play", "f"]))
-    return asked, {"f": text, "g": log}, ""
+    words = draw.choice(("check f g", "renew f g", f"play f turns={steps}", "play f"))
+    return words.split(), {"f": text, "g": log}, ""
 
 
 def full_order(draw: random.Random) -> Odd:
@@ -151,6 +151,6 @@ def stage_lines(draw: random.Random) -> Odd:
 
 
 ODD: Tuple[Callable[[random.Random], Odd], ...] = (
-    (words,) * 6 + (missing,) * 3 + (generated,) * 3 + (long_name,) * 5 + (nested,) * 4 + (many,) * 14 + (long_text,) * 4
-    + (full_state,) * 10 + (large_atom,) * 5 + (many_offers,) * 3 + (much_typed,) * 4 + (long_run,) * 9
-    + (full_order,) * 4 + (proofs,) * 14 + (stage_lines,) * 18)
+    (words,) * 6 + (missing,) * 3 + (generated,) * 3 + (long_name,) * 5 + (nested,) * 4 + (many,) * 14
+    + (long_text,) * 3 + (full_state,) * 8 + (large_atom,) * 5 + (many_offers,) * 3 + (much_typed,) * 3
+    + (long_run,) * 9 + (full_order,) * 3 + (proofs,) * 14 + (stage_lines,) * 18)
