@@ -40,7 +40,10 @@
     for (const [name, bytes] of Object.entries(request.files)) there(program.file(...put(encoder.encode(name)), ...put(bytes)));
   }
 
-  /** Throws where the program traps, or the stack is too small. @param {WebAssembly.Module} compiled @param {Request} request @returns {Answer} */
+  /**
+   * Throws where the program traps, or the stack is too small.
+   * @param {WebAssembly.Module} compiled @param {Request} request @returns {Answer}
+   */
   function run(compiled, request) {
     /** @type {Uint8Array[][]} */
     const parts = [[], [], []];
