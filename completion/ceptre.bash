@@ -113,7 +113,7 @@ _ceptre_script_form() {
     player) options='--help --version --log --load --from --rows --plain --memory' words=('.cep' 'seed= height= turns=') again=1 ;;
     publish) options='--help --version --title --output --transcript --site --players --seed --height --turns' words=('.cep') again= ;;
     replay) options='--help --version --seed --turns --typed --words --memory' words=('.cep' '.log') again= ;;
-    sample) options='--help --version --runs --seed --players-by-seed --height --turns --goal --csv --jobs --memory' words=('.cep') again= ;;
+    sample) options='--help --version --runs --seed --players-by-seed --height --turns --goal --csv --keep --jobs --memory' words=('.cep') again= ;;
     server) options='--help --version' words=() again= ;;
     solve) options='--help --version --goal --stuck --states --seconds --by-seed --seed --height --turns --log --typed --plain --jobs --memory' words=('.cep') again= ;;
     why) options='--help --version --memory' words=('.cep' '.log' '-' 'rules' '-') again=1 ;;
@@ -159,6 +159,7 @@ _ceptre_value() {
     sample:--height) value='-' ;;
     sample:--turns) value='-' ;;
     sample:--goal) value='atoms' ;;
+    sample:--keep) value='FILE' ;;
     sample:--jobs) value='-' ;;
     sample:--memory) value='-' ;;
     solve:--goal) value='atoms' ;;

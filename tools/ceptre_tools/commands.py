@@ -250,7 +250,8 @@ by, so ask for one of at most your own; an end word other than `quiet` is its ow
         Option("LOG", "a transcript, or a folder: all of its files NAME.log", completed=".log", times="+"),
         Option(
             "--goal",
-            "an atom of the last state, or `have N ATOM`, and what it counts (1); may come again",
+            "an atom of the last state (`_` for any term), `have N ATOM` or `none ATOM`, and what it counts "
+            "(1); may come again",
             "ATOM[=POINTS]",
             completed="atoms",
             times="*",
@@ -383,6 +384,7 @@ runs the world, and what is counted is what it wrote.""",
         TURNS,
         Option("--goal", "count the last states that have it", "ATOM", completed="atoms", times="*"),
         Option("--csv", "a row for each run in place of the table"),
+        Option("--keep", "keep the transcript of each run there, as SEED.log", "FOLDER", completed="FILE"),
         JOBS,
         MEMORY,
     ),

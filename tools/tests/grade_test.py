@@ -172,11 +172,17 @@ class Asked(Folder):
         names = [first, os.path.join(self.folder, "b.log")]
         self.assertEqual((status, table), (0, [(names[0], ""), (names[1], names[0])]))
 
+    def test_goals_with_blanks_and_without(self):
+        goals = ["--goal", "guard _=2", "--goal", "none crown _=3", "--goal", "none rich"]
+        status, output, _ = called("grade", CASTLE, CASTLE_LOG, *goals)
+        row = rows(output)[0]
+        self.assertEqual((status, row["guard _"], row["none crown _"], row["none rich"]), (4, "yes", "yes", "no"))
+
     def test_json(self):
         goals = ["--goal", "rich=5", "--goal", "guard hall=3", "--end", "quiet"]
         _, output, _ = called("grade", CASTLE, CASTLE_LOG, "--json", *goals)
         result = json.loads(output)
-        self.assertEqual(result["score"], 5)
+        self.assertEqual((result["score"], result["max_score"]), (5, 8))
         scores = [(t["name"], t["status"], t.get("score"), t.get("max_score")) for t in result["tests"]]
         wanted = [
             ("the transcript is accepted", "passed", None, None),

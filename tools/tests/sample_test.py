@@ -75,6 +75,21 @@ class Sample(unittest.TestCase):
             with self.subTest(words=words):
                 self.assertEqual(called("sample", *words)[0], status)
 
+    def test_runs_are_kept(self):
+        folder = os.path.join(os.path.dirname(self.world), "kept")
+        self.rows(self.world, "--runs", "2", "--seed", "5", "--keep", folder)
+        self.assertEqual(sorted(os.listdir(folder)), ["5.log", "6.log"])
+        for seed in (5, 6):
+            command = [os.environ["CEPTRE"], "play", self.world, f"seed={seed}"]
+            log = subprocess.run(command, stdout=subprocess.PIPE, check=False).stdout
+            with open(os.path.join(folder, f"{seed}.log"), "rb") as file:
+                self.assertEqual(file.read(), log)
+        self.assertEqual(called("sample", self.world, "--runs", "1", "--keep", self.world)[0], 3)
+
+    def test_goals_with_blanks_and_without(self):
+        rows = self.rows("worlds/apple.cep", "--runs", "4", "--players-by-seed", "--goal", "full _", "--goal", "none apple _")
+        self.assertEqual({(row["goal full _"], row["goal none apple _"]) for row in rows}, {("yes", "yes")})
+
     def test_pipes(self):
         script = f"{TOOLS}/sample <(cat {self.world}) --runs 2 | true; exit ${{PIPESTATUS[0]}}"
         done = subprocess.run(["bash", "-c", script], cwd=TOP, capture_output=True, text=True, check=False)

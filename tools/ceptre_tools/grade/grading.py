@@ -198,7 +198,9 @@ def results(asked: Asked, grade: Grade) -> dict[str, Any]:
         found = test(f"goal {goal.name}", is_reached, "")
         tests.append({**found, "score": counted, "max_score": goal.points})
     extra = {name: row[name] for name in ("file", "steps", "height", "end", "same")}
-    return {"score": grade.points(asked.goals), "output": said, "tests": tests, "extra_data": extra}
+    most = sum(goal.points for goal in asked.goals)
+    scores = {"score": grade.points(asked.goals), **({"max_score": most} if asked.goals else {})}
+    return {**scores, "output": said, "tests": tests, "extra_data": extra}
 
 
 def test(name: str, passed: bool, output: str) -> dict[str, Any]:

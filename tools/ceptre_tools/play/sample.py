@@ -1,6 +1,7 @@
 """The script `sample`: runs by many seeds, and what is counted of them."""
 
 import csv
+import os
 import random
 import shutil
 import statistics
@@ -34,9 +35,9 @@ class Sample(NamedTuple):
         return sum(self.fired.values())
 
 
-def sampled(words: list[str], seed: int, goals: list[Goal], players_by_seed: bool) -> Sample:
-    """A run by a seed."""
-    run = Run([*words, f"seed={seed}"])
+def sampled(words: list[str], seed: int, goals: list[Goal], players_by_seed: bool, keep: str = "") -> Sample:
+    """A run by a seed, whose transcript is kept in a folder if one is named."""
+    run = Run([*words, f"seed={seed}"], os.path.join(keep, f"{seed}.log") if keep else "")
     draw = random.Random(seed)
     run.play()
     while run.offers and players_by_seed:
@@ -123,9 +124,11 @@ def sample(words: Namespace) -> int:
         except ValueError as error:
             return complain("sample", str(error), USAGE)
         call = [path, *options(height=words.height, turns=words.turns)]
+        if words.keep:
+            os.makedirs(words.keep, exist_ok=True)
         seeds = range(words.seed, words.seed + words.runs)
         samples = side_by_side(
-            lambda seed: sampled(call, seed, goals, words.players_by_seed), seeds, words.jobs
+            lambda seed: sampled(call, seed, goals, words.players_by_seed, words.keep or ""), seeds, words.jobs
         )
     world = World(text)
     if words.csv:
