@@ -133,14 +133,17 @@ def star_in_clause(here: Location) -> Iterator[Edit]:
 
 
 def missing_comma(here: Location) -> Iterator[Edit]:
-    first, _ = here.bounds()
+    """Not before a line that has an arrow of its own: that is the next clause."""
+    first, last = here.bounds()
     if first and here.tokens[first - 1].text == ".":
         yield from instead(here.tokens[first - 1], ",")
     if here.word() == ".":
         yield from instead(here.token(0), ",")
     if not here.in_rule():
         for number in unjoined(here):
-            yield from after(here, number - 1, ",")
+            begins_line = here.tokens[number].line > here.tokens[number - 1].line
+            if not (begins_line and any(token.text == "<-" for token in here.tokens[number:last])):
+                yield from after(here, number - 1, ",")
 
 
 def missing_arrow(here: Location) -> Iterator[Edit]:
