@@ -16,7 +16,7 @@ from ceptre_tools.world import read_world
 
 PLAYER = os.path.join(TOOLS, "player")
 APPLE = "worlds/apple.cep"
-WITH_PROSE = ("castle", "dungeon", "market")
+WITH_PROSE, WITH_SOME_PROSE = ("castle", "dungeon", "market"), ("hands",)
 
 # A world with forty offers.
 MANY = (
@@ -155,6 +155,9 @@ class Prosaic(Player):
             self.assertEqual(prose.faults, [])
             if name in WITH_PROSE:
                 self.assertEqual(sorted(prose.rules), sorted(world.rules))
+            elif name in WITH_SOME_PROSE:
+                self.assertLess(set(prose.rules), set(world.rules))
+                self.assertTrue(prose.rules)
             else:
                 self.assertEqual(prose.rules, {})
 
