@@ -349,13 +349,13 @@ class Pages(unittest.TestCase):
         self.assertIn("more of the browser's stack than there is, and is undone", self.said())
         self.assertEqual(self.browser.text("#now"), "Choose (1 way)")
         castle = os.path.join(self.folder, "castle.html")
-        full = "const loader = { run: (m, r) => r.typed.length ? { status: 9, said: new Uint8Array() } : run(m, r) };"
-        self.browser.open(setting.changed(castle, "const loader = { run };", full))
+        full = "ceptre = { run: (m, r) => r.typed.length ? { status: 9, said: new Uint8Array() } : run(m, r) };"
+        self.browser.open(setting.changed(castle, "ceptre = { run };", full))
         self.browser.click("#offers button")
         self.browser.idle()
         self.assertEqual(self.said(), "Out of memory: that choice is undone.")
-        trap = "const loader = { run: (m, r) => { if (r.typed.length) throw new Error('a trap'); return run(m, r); } };"
-        self.browser.open(setting.changed(castle, "const loader = { run };", trap))
+        trap = "ceptre = { run: (m, r) => { if (r.typed.length) throw new Error('a trap'); return run(m, r); } };"
+        self.browser.open(setting.changed(castle, "ceptre = { run };", trap))
         self.browser.click("#offers button")
         self.browser.idle()
         self.assertEqual(self.said(), "The program broke off (Error: a trap), and that choice is undone.")
