@@ -126,9 +126,9 @@ def of_function(line: str, number: int) -> Iterator[str]:
         yield line
         yield f"  %over{number} = getelementptr i8, ptr {found[1]}, i64 4\n  store i32 0, ptr %over{number}, align 4\n"
     elif found := MOVED.fullmatch(line):
-        yield from moved(*found.groups(), number)
+        yield from moved(number, *found.groups())
     elif found := PAIR.fullmatch(line):
-        yield from loaded(*found.groups(), number) if "ptr" in found.group(2, 3) else [line]
+        yield from loaded(number, *found.groups()) if "ptr" in found.group(2, 3) else [line]
     else:
         raise Unknown(line)
 
@@ -145,7 +145,7 @@ def same(line: str, known: bool) -> str:
     return line
 
 
-def moved(which: str, to: str, what: str, length: str, number: int) -> Iterator[str]:
+def moved(number: int, which: str, to: str, what: str, length: str) -> Iterator[str]:
     """A move of bytes, whose length gets 32 bits."""
     if length.startswith("%"):
         yield f"  %narrow{number} = trunc i64 {length} to i32\n"
@@ -153,7 +153,7 @@ def moved(which: str, to: str, what: str, length: str, number: int) -> Iterator[
     yield f"  call void @llvm.{which}.i32({to}, {what}, i32 {length}, i1 false)\n"
 
 
-def loaded(name: str, first: str, second: str, place: str, align: str, number: int) -> Iterator[str]:
+def loaded(number: int, name: str, first: str, second: str, place: str, align: str) -> Iterator[str]:
     """A pair that is loaded part by part, each from where it stands on x86-64."""
     at = max(SIZES[first], SIZES[second])
     pair = f"{{ {first}, {second} }}"

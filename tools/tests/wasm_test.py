@@ -168,6 +168,12 @@ class Shim(unittest.TestCase):
         self.assertLessEqual(sum(read(TOP, "web", name).count("\n") for name in SHIM), 300)
         self.assertLessEqual(read(TOP, "web", "loader.js").count("\n"), 80)
 
+    @unittest.skipUnless(shutil.which("tsc"), "node-typescript is not installed")
+    def test_the_types_of_the_loader(self):
+        words = ["--noEmit", "--checkJs", "--allowJs", "--strict", "--target", "es2022", "--module", "commonjs", "--lib", "es2022,dom"]
+        done = subprocess.run(["tsc", *words, os.path.join(TOP, "web", "loader.js")], capture_output=True, text=True, check=False)
+        self.assertEqual((done.returncode, done.stdout), (0, ""))
+
     @unittest.skipUnless(shutil.which("cc"), "a C compiler is not installed")
     def test_the_heap_against_a_model(self):
         with tempfile.TemporaryDirectory() as folder:
