@@ -51,7 +51,10 @@ class Turn(ast.NodeTransformer):
         self.number, self.line = number, 0
 
     def visit(self, node: ast.AST) -> ast.AST:
-        """The part, or a wrong version of it."""
+        """The part, or a wrong version of it. What bounds the work, or reads files, is not the language."""
+        if isinstance(node, ast.FunctionDef) and node.name in ("main", "deep", "spend") or (
+                isinstance(node, ast.Call) and isinstance(node.func, ast.Attribute) and node.func.attr == "spend"):
+            return node
         for part in wrong(node):
             self.number -= 1
             if self.number == -1:

@@ -124,6 +124,15 @@ def full_order(draw: random.Random) -> Odd:
     return ["again", "f", "g", f"seed={draw.randint(1, 9)}"], {"f": text, "g": log}, ""
 
 
+def deep_proof(draw: random.Random) -> Odd:
+    """A transcript with as many brackets open at once as there may be, or one more."""
+    deep = draw.choice((300, 511, 512, 513))
+    text = "d : bwd. d <- d. d. a : pred.\nstage main = { r : d -o a. }\n#interactive main.\n#trace _ main {}.\n"
+    proof = "[1 " * (deep - 1) + "[2]" + "]" * (deep - 1)
+    log = f"ceptre 2\nheight {draw.choice((300, 511, 512))}\nstage main\nstep r\nby {proof}\nend input\nhave 1 a\n"
+    return ["check", "f", "g"], {"f": text, "g": log}, ""
+
+
 def proofs(draw: random.Random) -> Odd:
     """Transcripts with derivations, right and wrong ones, and heights that are too low for them."""
     text = (f"{USES}m t : bwd.\nm c.\nm (s N) <- m N.\nm (s (s N)) <- m N.\nstage main = {{ r : $p X * m X -o a. }}\n"
@@ -153,4 +162,4 @@ def stage_lines(draw: random.Random) -> Odd:
 ODD: Tuple[Callable[[random.Random], Odd], ...] = (
     (words,) * 6 + (missing,) * 3 + (generated,) * 3 + (long_name,) * 5 + (nested,) * 4 + (many,) * 14
     + (long_text,) * 3 + (full_state,) * 8 + (large_atom,) * 5 + (many_offers,) * 3 + (much_typed,) * 3
-    + (long_run,) * 9 + (full_order,) * 3 + (proofs,) * 14 + (stage_lines,) * 18)
+    + (long_run,) * 9 + (full_order,) * 3 + (deep_proof,) * 4 + (proofs,) * 14 + (stage_lines,) * 18)
