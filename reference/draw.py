@@ -122,8 +122,8 @@ class World:
         return f"r{self.rule_number} : {' * '.join(left)} -o {' * '.join(right)}."
 
     def outer(self) -> str:
-        """A rule that leaves a stage."""
-        left, right = self.sides()
+        """A rule that leaves a stage, often without a condition."""
+        left, right = self.sides() if self.draw.random() < 0.4 else ([], [])
         left += ["qui", f"stage {self.draw.choice(self.stages)}"]
         right.append(f"stage {self.draw.choice(self.stages)}")
         self.draw.shuffle(left)

@@ -83,7 +83,8 @@ def large_atom(draw: random.Random) -> Odd:
     deep = draw.choice((509, 510, 510, 511))
     term = "(s " * deep + "c" + ")" * deep
     text = f"{USES}stage main = {{ r : p X -o p (s X). }}\n#trace _ main {{ p {term} }}.\n"
-    log = f"ceptre 2\nheight 128\nstage main\nhave 1 p {term}\nstep r X={term}\nend atom\nhave 1 p (s {term})\n"
+    value = draw.choice((term, term, f"(s {term})", f"(s (s {term}))"))
+    log = f"ceptre 2\nheight 128\nstage main\nhave 1 p {term}\nstep r X={value}\nend atom\nhave 1 p (s {term})\n"
     return draw.choice((["play", "f"], ["check", "f", "g"])), {"f": text, "g": log}, ""
 
 
