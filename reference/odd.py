@@ -66,7 +66,7 @@ def long_text(draw: random.Random) -> Odd:
 def full_state(draw: random.Random) -> Odd:
     """A state of nearly the most copies, which a step may fill, played or with a transcript of that step."""
     count = draw.choice((99_998, 100_000, 100_000, 100_001))
-    start = ", ".join(["k"] * (count // 1000) + ["b"] * (count % 1000 - 1) + ["a"])
+    start = ", ".join(["k"] * ((count - 1) // 1000) + ["b"] * ((count - 1) % 1000) + ["a"])
     text = (f"{USES}stage main = {{ r : a -o a * b. }}\ncontext k = {{ {', '.join(['b'] * 1000)} }}\n"
             f"#trace 4 main {{ {start} }}.\n")
     log = (f"ceptre 2\nheight 128\nstage main\nhave 1 a\nhave {count - 1} b\nstep r\nend atom\nhave 1 a\n"
@@ -77,14 +77,14 @@ def full_state(draw: random.Random) -> Odd:
 def large_atom(draw: random.Random) -> Odd:
     """Atoms that grow to the most nodes, or to the greatest depth, played or with a transcript of the step that passes
     it."""
-    if draw.random() < 0.5:
+    if draw.random() < 0.2:
         text = f"{USES}stage main = {{ r : p X -o p (f X X). }}\n#trace 17 main {{ p (f (f (f c c) c) c) }}.\n"
         return ["play", "f"], {"f": text}, ""
     deep = draw.choice((509, 510, 510, 511))
     term = "(s " * deep + "c" + ")" * deep
     text = f"{USES}stage main = {{ r : p X -o p (s X). }}\n#trace _ main {{ p {term} }}.\n"
-    value = draw.choice((term, term, f"(s {term})", f"(s (s {term}))"))
-    log = f"ceptre 2\nheight 128\nstage main\nhave 1 p {term}\nstep r X={value}\nend atom\nhave 1 p (s {term})\n"
+    value = draw.choice((term, term, term, f"(s {term})", f"(s (s {term}))"))
+    log = f"ceptre 2\nheight 128\nstage main\nhave 1 p {term}\nstep r X={value}\nend atom\nhave 1 p {term}\n"
     return draw.choice((["play", "f"], ["check", "f", "g"])), {"f": text, "g": log}, ""
 
 
